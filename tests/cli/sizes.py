@@ -135,6 +135,60 @@ def many_misfits(count=66):
     return b"".join(log), yes((3 * count + 2, 1), (0, 0), notes)
 
 
+def asked(number, uri):
+    """A request about a document."""
+    return message(b"E", id=number, method="textDocument/hover", params={"textDocument": {"uri": uri}})
+
+
+def refused(number):
+    """The answer that refuses the params of a request."""
+    return message(b"S", id=number, error={"code": -32602, "message": "c"})
+
+
+def noted_refusal(uri, event, server):
+    """The note on such an answer."""
+    return f'note refused -32602 "{uri}" event {event} server {server}'
+
+
+def many_refusals(count=66):
+    """Documents about which a request is refused: the first 64 of them are noted."""
+    log, notes, lines = [START], [], []
+    for number in range(count):
+        uri = f"file:///{number}"
+        log += [did_open(uri, 1, "ab"), asked(number + 10, uri), refused(number + 10)]
+        notes.append(noted_refusal(uri, 3 * number + 6, number + 2))
+        lines.append(f'document 1 2 "{uri}"')
+    lines += ["note nothing-compared", *notes[:64], "notes 65"]
+    return b"".join(log), yes((2 * count + 2, count + 1), (0, 0), lines)
+
+
+def forgotten_request(later=1024):
+    """Two requests that are refused. When the first one is answered, 1,024 have been sent after it,
+    and it is forgotten; the second one is among the last 1,024."""
+    first, second = "file:///a", "file:///b"
+    log = [START, did_open(first, 1, "ab"), did_open(second, 1, "ab"), asked(10, first)]
+    log += [asked(11 + number, second) for number in range(later)]
+    log += [refused(10), refused(11)]
+    lines = [f'document 1 2 "{uri}"' for uri in (first, second)]
+    lines += [f'request editor {12 + number} "textDocument/hover"' for number in range(later - 1)]
+    lines += ["note nothing-compared", noted_refusal(second, 8 + later, 3), "notes 2"]
+    return b"".join(log), yes((5 + later, 3), (0, 0), lines)
+
+
+def many_closings(before, later, is_noted):
+    """A request about a document that is open, other documents that are closed before and after it,
+    and the answer that refuses it; then a second request that is refused. The last 1,024 closings
+    tell whether the document stayed open since a request, if they are all or go back so far."""
+    uri, others = "file:///a", [f"file:///{number}" for number in range(before + later)]
+    passing = [did_open(other, 1, "x") + did_close(other) for other in others]
+    log = [START, did_open(uri, 1, "ab"), *passing[:before], asked(10, uri), *passing[before:]]
+    log += [refused(10), asked(11, uri), refused(11)]
+    event = 6 + 2 * len(others) + (0 if is_noted else 2)
+    note = noted_refusal(uri, event, 2 if is_noted else 3)
+    lines = [f'document 1 2 "{uri}"', "note nothing-compared", note, "notes 2"]
+    return b"".join(log), yes((5 + 2 * len(others), 3), (0, 0), lines)
+
+
 def units(text):
     """How many units of UTF-16 a text has."""
     return len(text.encode("utf-16-le")) // 2
@@ -234,6 +288,14 @@ def small():
         yield name, ["normal"], log, 0, log, b""
     log, report = many_misfits()
     yield "many documents that are noted", ["explain"], log, 0, report, b""
+    for name, (log, report) in [
+        ("many refused requests", many_refusals()),
+        ("a refused request that is forgotten", forgotten_request()),
+        ("1,023 closings before an answer", many_closings(0, 1023, True)),
+        ("1,024 closings since a request", many_closings(0, 1024, False)),
+        ("1,023 closings since a request, and one before it", many_closings(1, 1023, True)),
+    ]:
+        yield name, ["explain"], log, 0, report, b""
     for count in [1000, 100_000]:
         log, report, text = long_document(count)
         yield f"a document of {count} lines", ["check"], log, 0, report, b""

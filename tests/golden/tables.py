@@ -55,6 +55,8 @@ TEMPLATES = {
     "CLOSE": '{"jsonrpc":"2.0","method":"textDocument/didClose","params":{"textDocument":{"uri":"file:///a"}}}',
     "SAVE": '{"jsonrpc":"2.0","method":"textDocument/didSave","params":{"textDocument":{"uri":"file:///a"},"text":@}}',
     "REQ": '{"jsonrpc":"2.0","id":@,"method":"textDocument/hover","params":{}}',
+    "ASK": '{"jsonrpc":"2.0","id":@,"method":"textDocument/formatting","params":'
+    '{"textDocument":{"uri":@},"options":{}}}',
     "CANCEL": '{"jsonrpc":"2.0","method":"$/cancelRequest","params":{"id":@}}',
     "RES": '{"jsonrpc":"2.0","id":@,"result":null}',
     "ERR": '{"jsonrpc":"2.0","id":@,"error":{"code":@,"message":"c"}}',

@@ -27,6 +27,7 @@ use Rattle.lsp_explain.specs.ExplainRuns.{may_keep}
 use Rattle.lsp_explain.specs.Explained.{cause_lines, is_cause, Breach, breach, noticed_by}
 use Rattle.lsp_explain.specs.Misfits.{AreMisfits, found_kept}
 use Rattle.lsp_explain.specs.Notes.{note_lines, notes_by}
+use Rattle.lsp_explain.specs.Refusals.{AreRefusals}
 use Rattle.lsp_explain.specs.Trails.{IsTrail}
 use Rattle.lsp_explain.specs.declared.run.FirstOffence.{FirstOffence}
 use Rattle.lsp_explain.specs.declared.run_all.AllCauses.{AllCauses}
@@ -80,9 +81,10 @@ module _ (terms : Terms) (before : List Heard) (h : Heard) where
     pub first_kept : rule_of terms before h ≡ None
         → IsTrail terms next.trail (heard_events (before ++ h ∷ []))
         → AreMisfits next.misfits (found_kept terms (heard_events (before ++ h ∷ [])))
+        → AreRefusals terms next.refusals (heard_events (before ++ h ∷ []))
         → Says (explain_run account.completeness) terms before h Fits old old
         (FirstStands next terms (before ++ h ∷ [])) GoOn
-    first_kept kept trail misfits = record {
+    first_kept kept trail misfits refusals = record {
       said = [];
       added = sym (append-nil old);
       is = λ rests fits. subst (λ (o : Option ℕ). SaysFirst rests terms
@@ -92,6 +94,7 @@ module _ (terms : Terms) (before : List Heard) (h : Heard) where
         record {
           trail = trail;
           misfits = misfits;
+          refusals = refusals;
           clean = first_after terms before h stands.clean ∙ none_is terms before h kept;
         },
       );

@@ -2,19 +2,21 @@
 -- changed and shown, with one more.
 use Rattle.std.specs.Prelude.{◌-◌, drop, length, map, nat_lt, not, option_map, reverse}
 use Rattle.std.specs.Prelude.{if◌then◌else◌, is_some, String}
-use Rattle.std.specs.List.{find, take_while, cons_option, fold}
+use Rattle.std.specs.Prelude.{◌||◌}
+use Rattle.std.specs.List.{find, take_while, cons_option, fold, list_any}
 use Rattle.std.specs.Option.{option_or}
 use Rattle.std.proofs.Common.{◌≡◌, ◌<◌, ◌+◌, ℕ, Bool, true, false, List, [], ◌∷◌, ◌++◌, Bor, Option}
 use Rattle.std.proofs.Common.{Some, None, refl, sym, ap, ◌∙◌, arith, append-nil}
 use Rattle.std.proofs.lemmas.Bool.Decides.{nat_tests}
 use Rattle.std.proofs.lemmas.List.{drop-append-le, drop-drop, drop-map, length-drop, length-map}
 use Rattle.std.proofs.lemmas.List.{length_push, map-append, reverse-append}
-use Rattle.std.proofs.lemmas.List.Folds.{find-append}
+use Rattle.std.proofs.lemmas.List.Folds.{find-append, list_any-append}
 use Rattle.std.proofs.lemmas.List.Sums.{take_while-cons, fold-append}
 use Rattle.std.proofs.lemmas.List.Elements.{filter_map-append}
 use Rattle.std.specs.Global.{Global}
 use Rattle.indexmap.proofs.ReorderLemmas.{map-reverse}
 use Rattle.lsp_docs.proofs.Others.{find-map}
+use Rattle.lsp_docs.proofs.Words.{any-map}
 use Rattle.lsp_docs.specs.Documents.{Terms}
 use Rattle.lsp_verdict.specs.Event.{Event}
 use Rattle.lsp_verdict.specs.Offences.{kept_of, rule_at}
@@ -107,6 +109,16 @@ pub last_held : {A B : Type 0} (view : A → B) (p : B → Bool) (first second a
 last_held view p first second all x y is_x is_y whole =
     ap (option_map view) (last_of_parts (λ a. p (view a)) first second all x y is_x is_y whole)
     ∙ last_seen view p all
+
+-- one of two parts passes
+pub any_in_parts : {A B : Type 0} (view : A → B) (p : B → Bool) (first second all : List A)
+    → first ++ second ≡ all
+    → list_any p (map view all)
+    ≡ (list_any (λ a. p (view a)) first || list_any (λ a. p (view a)) second)
+any_in_parts view p first second all whole =
+    any-map p view all
+    ∙ ap (list_any (λ a. p (view a))) (sym whole)
+    ∙ list_any-append (λ a. p (view a)) first second
 
 -- ---- what comes behind it
 

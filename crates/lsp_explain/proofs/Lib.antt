@@ -13,6 +13,7 @@ pub mod Standard
 pub mod Quiet
 pub mod DocumentNoting
 pub mod Misfitting
+pub mod Refusing
 pub mod Trails
 pub mod Ending
 pub mod Comparing

@@ -27,6 +27,7 @@ use Rattle.lsp_explain.specs.Explained.{Explains, breach_at, end_explained, expl
 use Rattle.lsp_explain.specs.Explained.{noticed_by}
 use Rattle.lsp_explain.specs.Misfits.{AreMisfits, found_kept}
 use Rattle.lsp_explain.specs.Notes.{note_lines, notes_by}
+use Rattle.lsp_explain.specs.Refusals.{AreRefusals}
 use Rattle.lsp_explain.specs.Trails.{IsTrail}
 use Rattle.lsp_explain.specs.declared.run.FirstOffence.{FirstOffence}
 use Rattle.lsp_explain.specs.declared.run_all.AllCauses.{AllCauses}
@@ -140,6 +141,7 @@ all_run completeness = record {
 pub record FirstStands (a : FirstOffence) (terms : Terms) (heard : List Heard) : Type 0 where
   pub trail : IsTrail terms a.trail (heard_events heard)
   pub misfits : AreMisfits a.misfits (found_kept terms (heard_events heard))
+  pub refusals : AreRefusals terms a.refusals (heard_events heard)
   pub clean : first_no terms (heard_events heard) ≡ None
 
 -- **that of `explain --all`**, which may offend

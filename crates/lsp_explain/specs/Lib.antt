@@ -11,6 +11,7 @@ pub mod Trails
 pub mod Compared
 pub mod DocumentNotes
 pub mod Misfits
+pub mod Refusals
 pub mod Notes
 pub mod ExplainRuns
 pub mod Explained

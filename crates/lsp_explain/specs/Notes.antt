@@ -8,7 +8,9 @@ use Rattle.lsp_docs.specs.Documents.{Terms}
 use Rattle.lsp_explain.specs.Asking.{Numbered, numbered, sents}
 use Rattle.lsp_explain.specs.SessionNotes.{Misused, misuses, abrupt_exit, older_encoding}
 use Rattle.lsp_explain.specs.History.{OnDocument}
+use Rattle.lsp_explain.specs.DocumentNotes.{DocumentNote, document_line}
 use Rattle.lsp_explain.specs.Misfits.{Found, misfit_notes}
+use Rattle.lsp_explain.specs.Refusals.{refusals}
 use Rattle.lsp_explain.specs.Renames.{renamed}
 use Rattle.lsp_explain.specs.Openings.{unshown}
 use Rattle.lsp_verdict.specs.Event.{Event}
@@ -72,12 +74,13 @@ abbrev pub old_name_notes : Option OnDocument → List Fact
 old_name_notes found = option_to_list (option_map
     (λ (x : OnDocument). line (codes "note renamed" ∷ quoted x.uri ∷ place_words x.place)) found)
 
--- what the notes are on: messages, the documents that were changed and have no snapshot, and what
--- changes found
+-- what the notes are on: messages, the documents that were changed and have no snapshot, what
+-- changes found, and the documents about which a request was refused
 pub record Noticed : Type 0 where
   pub said : List Numbered
   pub unshown : List (List ℕ)
   pub found : List Found
+  pub refused : List DocumentNote
 
 -- what these events have of it, whose changes found this
 abbrev pub noticed : Terms → List Event → List Found → Noticed
@@ -85,6 +88,7 @@ noticed terms events found = record {
   said = numbered terms events;
   unshown = unshown terms events;
   found = found;
+  refused = refusals terms events;
 }
 
 -- **the notes on these**, with this verdict
@@ -95,6 +99,7 @@ notes_by v n =
     ++ old_name_notes (renamed n.said)
     ++ uncompared v n.unshown
     ++ misfit_notes n.found
+    ++ map document_line n.refused
 
 -- how many there are, if there are any
 abbrev pub count_line : ℕ → List ℕ

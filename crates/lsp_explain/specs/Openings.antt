@@ -50,6 +50,26 @@ abbrev pub closing_of : List ℕ → List OnDocument → Closing
 closing_of uri ons =
     closing_by (nat_lt (length ons) most_closings) (last_on uri (last_ones most_closings ons))
 
+-- ---- open since an event
+
+abbrev pub is_before : EventPlace → OnDocument → Bool
+is_before p on = nat_lt on.place.event p.event
+
+-- the closings that are looked at go back to before the event of this place
+abbrev pub reaches : EventPlace → List OnDocument → Bool
+reaches p ons = list_any (is_before p) (last_ones most_closings ons)
+
+-- nothing closed a document since the event of this place that was closed so, where they do or not
+abbrev pub stays : EventPlace → Closing → Bool → Bool
+stays p (closing.Last q) all = nat_lt q.event p.event
+stays p closing.Never all = true
+stays p closing.Forgotten all = all
+
+-- **none of these closings closed the document of this URI since the event of this place**, as far
+-- as those tell that are looked at
+abbrev pub stayed_open : EventPlace → List ℕ → List OnDocument → Bool
+stayed_open p uri ons = stays p (closing_of uri ons) (reaches p ons)
+
 -- ---- changed and shown
 
 -- how many documents are looked at

@@ -8,10 +8,12 @@ ghost use Rattle.lsp_explain.specs.Misfits.{AreMisfits, Found};
 ghost use Rattle.lsp_explain.specs.Notes as spec;
 ghost use Rattle.lsp_explain.specs.Notes.{misuse_line, name_notes, noticed, old_name_notes};
 ghost use Rattle.lsp_explain.specs.Notes.{note_lines, notes_by, uncompared, unshown_line};
+ghost use Rattle.lsp_explain.specs.Refusals.{AreRefusals};
 ghost use Rattle.lsp_explain.specs.Trails.{StandsAfter, terms_in};
 
 mod document_notes;
 mod misfits;
+mod refusals;
 
 use crate::trace::push_earlier;
 use crate::trail::{DocumentEvent, Misuse, Misused, Past};
@@ -19,6 +21,7 @@ use lsp_facts::{Facts, push_facts};
 use lsp_rpc::{Encoding, Result};
 use lsp_verdict::{Verdict, encoding_name};
 pub(crate) use misfits::Misfits;
+pub(crate) use refusals::Refusals;
 use std::fmt::Write;
 
 /// Adds the notes on the messages that were heard, each on a line, and how many they are.
@@ -29,10 +32,12 @@ pub(crate) fn push_notes(
     lines: &mut String,
     past: Past<'_>,
     misfits: &Misfits,
+    refusals: &Refusals,
     verdict: &Verdict,
 ) -> Result<()>
     ensures { OnOk result ((before : List Event) (found : List Found)
         → StandsAfter past.entry before → AreMisfits misfits.now found
+        → AreRefusals (terms_in past.entry) refusals.now before
         → string_bytes lines.new ≡ string_bytes lines.old ++ note_lines
         (notes_by (verdict_view verdict.now) (noticed (terms_in past.entry) before found))) }
 {
@@ -48,6 +53,7 @@ pub(crate) fn push_notes(
     push_renamed(&mut notes, renamed)?;
     push_uncompared(&mut notes, verdict, unshown.as_slice())?;
     misfits.push(&mut notes)?;
+    refusals.push(&mut notes)?;
     push_counted(lines, &notes)
 }
 

@@ -16,7 +16,7 @@ ghost use Rattle.lsp_explain.specs.ExplainRuns.{ends_said, explain_run};
 ghost use Rattle.lsp_explain.specs.Explained.{WritesExplanation, explanation};
 ghost use Rattle.lsp_explain.specs.Trails.{IsTrail};
 
-use crate::notes::{Misfits, push_notes};
+use crate::notes::{Misfits, Refusals, push_notes};
 use crate::offence_facts::{push_end, push_flaw, push_offence};
 use crate::trail::{Past, Trail};
 use lsp_frame::{Limits, Sink, Source};
@@ -52,6 +52,7 @@ pub fn run_explain<R: Source, W: Sink>(
         completeness,
         trail: Trail::new(alloc),
         misfits: Misfits::new(alloc),
+        refusals: Refusals::new(alloc),
     };
     pass(alloc, reader, writer, limits, &mut account)
 }
@@ -62,6 +63,7 @@ pub(crate) struct FirstOffence {
     completeness: Completeness,
     trail: Trail,
     misfits: Misfits,
+    refusals: Refusals,
 }
 
 impl Account for FirstOffence {
@@ -76,6 +78,7 @@ impl Account for FirstOffence {
     #[inline(always)]
     fn event(&mut self, held: &Events<Lined>, seen: &Seen<'_>, text: &mut String) -> Result<Flow> {
         let Fate::Offends { rule, tried } = seen.fate else {
+            self.refusals.note_event(held, &self.trail, seen)?;
             self.trail.keep(held, seen)?;
             self.misfits.note_kept(held, seen)?;
             return Ok(Flow::GoOn);
@@ -86,7 +89,7 @@ impl Account for FirstOffence {
         let verdict = offence.verdict();
         push_offence(text, past, &offence, seen, tried)?;
         self.misfits.note_refuted(held, seen, rule)?;
-        push_notes(text, past, &self.misfits, &verdict)?;
+        push_notes(text, past, &self.misfits, &self.refusals, &verdict)?;
         let boxed = Box::new(*text.allocator(), Outcome::Judged(verdict))?;
         Ok(Flow::Stop(boxed))
     }
@@ -101,7 +104,7 @@ impl Account for FirstOffence {
         let trail = &self.trail;
         let past = Past { held, trail };
         let verdict = push_ending(text, past, log, end, self.completeness)?;
-        push_notes(text, past, &self.misfits, &verdict)?;
+        push_notes(text, past, &self.misfits, &self.refusals, &verdict)?;
         Ok(Outcome::Judged(verdict))
     }
 }

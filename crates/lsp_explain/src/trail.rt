@@ -28,6 +28,7 @@ mod step;
 
 use crate::trail::step::{Step, step_of};
 pub(crate) use conversation::Conversation;
+pub(crate) use last_ones::push_within;
 use lsp_replay::{EventPlace, Events, Fate, Seen};
 use lsp_rpc::{Result, Spoken};
 use lsp_text::Lined;
@@ -36,6 +37,7 @@ pub(crate) use mark::VersionEvent;
 pub(crate) use marks::Marks;
 pub(crate) use misuses::{Misuse, Misused};
 pub(crate) use openings::{Closing, DocumentEvent, Openings};
+pub(crate) use renames::text_at;
 use std::alloc::Global;
 
 /// Which kept events left the documents as they are, which opened and closed them last, and which

@@ -14,7 +14,7 @@ use Rattle.lsp_verdict.specs.Event.{Event}
 use Rattle.lsp_verdict.specs.Verdict.{no, summary, yes}
 use Rattle.lsp_verdict.specs.declared.verdict.Who.TheVariants.{Editor}
 use Rattle.lsp_verdict.proofs.Worked.Templates.{terms, E, S, I1, N1, START, OPEN, CHG, REP, REQ}
-use Rattle.lsp_verdict.proofs.Worked.Templates.{SH, RN, EX, T}
+use Rattle.lsp_verdict.proofs.Worked.Templates.{CLOSE, ERR, SH, RN, EX, T}
 use Rattle.lsp_explain.specs.StandardMethods.{standard, use_among, use_of}
 use Rattle.lsp_explain.specs.Explained.{noticed_by}
 use Rattle.lsp_explain.specs.Notes.{note_lines, notes_by}
@@ -133,6 +133,37 @@ its_length : notes_before (OPENED ++ REMOVE (codes "2") ∷ []) ≡ []
 unfolding value punctuate lex content word after_number number_of scan_numeral chars digits
     escape_byte use_of use_among standard
 its_length = refl
+
+-- ---- requests that are refused for their params
+
+-- a request about the document
+abbrev ABOUT : Event
+ABOUT = E (codes "{\"jsonrpc\":\"2.0\",\"id\":7,\"method\":\"textDocument/hover\",\"params\":"
+    ++ codes "{\"textDocument\":{\"uri\":\"file:///a\"}}}")
+
+abbrev REFUSED : Event
+REFUSED = ERR (codes "7") (codes "-32602")
+
+refused : notes_before (OPENED ++ ABOUT ∷ REFUSED ∷ [])
+    ≡ codes "note refused -32602 \"file:///a\" event 6 server 2\nnotes 1\n"
+unfolding value punctuate lex content word after_number number_of scan_numeral chars digits
+    escape_byte use_of use_among standard
+refused = refl
+
+cancelled : notes_before (OPENED ++ ABOUT ∷ ERR (codes "7") (codes "-32800") ∷ []) ≡ []
+unfolding value punctuate lex content word after_number number_of scan_numeral chars digits
+    escape_byte use_of use_among standard
+cancelled = refl
+
+not_open : notes_before (START ++ ABOUT ∷ REFUSED ∷ []) ≡ []
+unfolding value punctuate lex content word after_number number_of scan_numeral chars digits
+    escape_byte use_of use_among standard
+not_open = refl
+
+closed_since : notes_before (OPENED ++ ABOUT ∷ CLOSE ∷ REFUSED ∷ []) ≡ []
+unfolding value punctuate lex content word after_number number_of scan_numeral chars digits
+    escape_byte use_of use_among standard
+closed_since = refl
 
 -- ---- snapshots
 

@@ -1,16 +1,17 @@
 //! Which documents were opened and closed last, which were changed, and of which there is a
 //! snapshot.
 ghost use Rattle.std.specs.Prelude.{◌≡◌, ◌++◌, ◌∷◌, ◌<◌, [], List, IfOk, OnOk, option_map};
-ghost use Rattle.std.specs.Prelude.{string_bytes};
+ghost use Rattle.std.specs.Prelude.{nat_lt, string_bytes};
 ghost use Rattle.std.specs.List.{list_any};
 ghost use Rattle.std.specs.Str.{bytes_eq};
 ghost use Rattle.lsp_docs.specs.Documents.{Terms};
 ghost use Rattle.lsp_verdict.specs.Event.{Event};
 ghost use Rattle.lsp_explain.specs.History.{kept_call, on_document, last_ones, last_that};
 ghost use Rattle.lsp_explain.specs.Openings.{AreOpenings, Holds, OpenedBy, OpensBy, closing_by};
-ghost use Rattle.lsp_explain.specs.Openings.{closing_of, closings, has_name, last_on};
+ghost use Rattle.lsp_explain.specs.Openings.{closing_of, closings, has_name, is_before, last_on};
 ghost use Rattle.lsp_explain.specs.Openings.{most_closings, most_openings, names_view, ons_view};
-ghost use Rattle.lsp_explain.specs.Openings.{openings, others, unshown, with_name};
+ghost use Rattle.lsp_explain.specs.Openings.{openings, others, stayed_open, stays, unshown};
+ghost use Rattle.lsp_explain.specs.Openings.{with_name};
 
 use crate::trail::last_ones::push_within;
 use crate::trail::step::Step;
@@ -102,6 +103,17 @@ impl Openings {
         )
     }
 
+    /// Whether no message closed the document of this URI since the event of this place. Where the
+    /// last 1,024 that closed a document do not go back so far, it may have been closed.
+    pub(crate) fn stayed_open(&self, uri: &str, place: EventPlace) -> bool
+        ensures { (terms : Terms) (events : List Event) → AreOpenings terms self.now events
+            → result ≡ stayed_open place uri.now (closings terms events) }
+    {
+        let closing = self.closing(uri);
+        let all = any_before(&self.closed, place);
+        stays(place, closing, all)
+    }
+
     /// The URIs of those of the first 64 documents that were changed that have no snapshot, in
     /// order; none where 64 documents have one.
     ///
@@ -145,6 +157,36 @@ fn closing_by(all: bool, last: Option<EventPlace>) -> Closing
         None if all => Closing::Never,
         None => Closing::Forgotten,
     }
+}
+
+/// Whether nothing closed a document since the event of this place that was closed so. `all` says
+/// whether each message is held that closed one since.
+fn stays(place: EventPlace, closing: Closing, all: bool) -> bool
+    ensures { result ≡ stays place closing all }
+{
+    match closing {
+        Closing::Last(closed) => closed.event < place.event,
+        Closing::Never => true,
+        Closing::Forgotten => all,
+    }
+}
+
+/// Whether one of these messages comes before the event of this place.
+fn any_before(held: &VecDeque<DocumentEvent>, place: EventPlace) -> bool
+    ensures { result ≡ list_any (is_before place) (ons_view held.now.items) }
+{
+    let (first, second) = held.as_slices();
+    if has_before(first, place) {
+        return true;
+    }
+    has_before(second, place)
+}
+
+/// Whether one of one part of them does.
+fn has_before(held: &[DocumentEvent], place: EventPlace) -> bool
+    ensures { result ≡ list_any (λ on. nat_lt on.place.event place.event) held.now }
+{
+    held.iter().any(|on| on.place.event < place.event)
 }
 
 /// The place of the last of these messages about the document of this URI.

@@ -9,6 +9,7 @@ use Rattle.lsp_explain.proofs.SessionSteps.{sents-numbered}
 use Rattle.lsp_verdict.specs.Event.{sent_in}
 use Rattle.lsp_verdict.specs.Given.{verdict_view}
 use Rattle.lsp_verdict.specs.Offences.{kept_of}
+use Rattle.lsp_explain.specs.DocumentNotes.{document_line, notes_view}
 use Rattle.lsp_explain.specs.Misfits.{misfit_notes}
 use Rattle.lsp_explain.specs.Notes.{exit_notes, misuse_line, name_notes, old_name_notes}
 use Rattle.lsp_explain.specs.Notes.{other_name, note_lines, uncompared}
@@ -19,7 +20,7 @@ pub returns : goal.returns
 returns c =
     let terms = terms_in c.args.past in
     on_ok_weaker c.push_counted.result
-    (λ written before found stands are.
+    (λ written before found stands are refused.
     let noted = stands.trail.said in
     let older = c.older_encoding.ensures ∙ noted.notes_are.older_is in
     let agreed = c.encoding.ensures (sent_in (kept_of terms before)) stands.holds.sent
@@ -30,7 +31,9 @@ returns c =
     let renamed = c.renamed-renamed.ensures ∙ noted.renames_are.renamed_is in
     let unshown = ap names_view c.as_slice-2.ensures.value
     ∙ c.in_ok-unshown.ensures terms before stands.trail.opened in
-    let pushed = c.in_ok-push.ensures found are
+    let pushed = c.in_ok-push-2.ensures
+    ∙ ap (λ l. l ++ map document_line (notes_view c.args.refusals.now.refused.items))
+    (c.in_ok-push.ensures found are
     ∙ ap (λ l. l ++ misfit_notes found) (c.in_ok-push_uncompared.ensures
     ∙ ap (λ l. l ++ uncompared (verdict_view c.args.verdict.now) (names_view
     c.as_slice-2.result.now)) (c.in_ok-push_renamed.ensures
@@ -41,11 +44,12 @@ returns c =
     ∙ ap (λ l. l ++ exit_notes c.args.past.trail.now.said.notes.abrupt_exit)
     (c.in_ok-push_misuses.ensures
     ∙ ap (λ l. l ++ map misuse_line (misused_views c.as_slice.result.now))
-    c.new-notes.ensures))))) in
+    c.new-notes.ensures)))))) in
     written
     ∙ ap (λ rs. string_bytes c.args.lines.now ++ note_lines rs)
     (pushed
     ∙ (λ i. map misuse_line (calls i) ++ exit_notes (exit i) ++ name_notes (name i)
     ++ old_name_notes (renamed i)
-    ++ uncompared (verdict_view c.args.verdict.now) (unshown i) ++ misfit_notes found)))
+    ++ uncompared (verdict_view c.args.verdict.now) (unshown i) ++ misfit_notes found
+    ++ map document_line (refused.refused_are i))))
     c.push_counted.ensures

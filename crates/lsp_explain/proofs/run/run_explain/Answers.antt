@@ -7,6 +7,7 @@ pass-requires g c = record {
   begins = λ terms. record {
     trail = c.new.ensures terms;
     misfits = c.new-2.ensures;
+    refusals = c.new-3.ensures terms;
     clean = refl;
   };
 }

@@ -4,6 +4,7 @@ use Rattle.lsp_verdict.specs.Given.{verdict_view}
 use Rattle.lsp_verdict.specs.Heard.{heard_events}
 use Rattle.lsp_explain.specs.Misfits.{AreMisfits, found_kept}
 use Rattle.lsp_explain.specs.Notes.{noticed, note_lines, notes_by}
+use Rattle.lsp_explain.specs.Refusals.{AreRefusals}
 use Rattle.lsp_explain.proofs.Ending.{first_closes}
 use Rattle.lsp_explain.proofs.Telling.{stands_at}
 use Rattle.lsp_explain.proofs.run.FirstOffenceAccount.end.Goals as goal
@@ -20,5 +21,7 @@ returns c = record {
       (noticed t (heard_events heard) (found ++ [])))) stood.by
       (c.in_ok-push_notes.ensures (heard_events heard) (found ++ [])
       (stands_at _ terms heard stands.trail stood)
-      (subst (AreMisfits c.args.self.now.misfits) (sym (append-nil found)) stands.misfits)));
+      (subst (AreMisfits c.args.self.now.misfits) (sym (append-nil found)) stands.misfits)
+      (subst (λ (t : Terms). AreRefusals t c.args.self.now.refusals (heard_events heard))
+      (sym stood.by) stands.refusals)));
 }

@@ -1,4 +1,4 @@
-use Rattle.std.proofs.Common.{◌≡◌, ◌∙◌, ◌++◌, ap, refl, string_bytes, subst}
+use Rattle.std.proofs.Common.{◌≡◌, ◌∙◌, ◌++◌, ap, refl, string_bytes, subst, sym}
 use Rattle.lsp_docs.specs.Documents.{Terms}
 use Rattle.lsp_replay.proofs.AllHeard.{kept_seen}
 use Rattle.lsp_replay.proofs.Wanting.{on_err}
@@ -9,6 +9,7 @@ use Rattle.lsp_verdict.specs.Heard.{heard_events}
 use Rattle.lsp_verdict.specs.Offences.{Offence}
 use Rattle.lsp_explain.specs.Misfits.{found_kept, found_refuted}
 use Rattle.lsp_explain.specs.Notes.{noticed, note_lines, notes_by}
+use Rattle.lsp_explain.specs.Refusals.{AreRefusals}
 use Rattle.lsp_explain.proofs.AccountSteps.{first_kept, first_told}
 use Rattle.lsp_explain.proofs.Telling.{stands_before, told_of}
 use Rattle.lsp_explain.proofs.run.FirstOffenceAccount.event.Goals as goal
@@ -22,13 +23,18 @@ returns-in_default c = record {
       let rule = kept_seen terms before h c.args.seen.now.fate c.in_default.not-Offends seen.fate in
       first_kept terms before h c.args.self.now _ stands (ShowsFault c.args.seen.now.raw)
       (string_bytes c.args.text.now) rule (c.in_ok-keep.ensures terms before h stands.trail seen)
-      (c.in_ok-note_kept.ensures terms before h stands.misfits seen);
+      (c.in_ok-note_kept.ensures terms before h stands.misfits seen)
+      (c.in_ok-note_event.ensures terms before h stands.trail stands.refusals seen rule);
 }
 
 -- memory is refused
+pub returns-in_err-note_event-clause-memory : goal.returns-in_err-note_event-clause-memory
+returns-in_err-note_event-clause-memory c =
+    on_err c.from_residual.result (λ terms before h stands seen. refl)
+
 pub returns-in_err-keep-clause-memory : goal.returns-in_err-keep-clause-memory
 returns-in_err-keep-clause-memory c =
-    on_err c.from_residual.result (λ terms before h stands seen. refl)
+    on_err c.from_residual-in_err-keep.result (λ terms before h stands seen. refl)
 
 pub returns-in_err-note_kept-clause-memory : goal.returns-in_err-note_kept-clause-memory
 returns-in_err-note_kept-clause-memory c =
@@ -76,5 +82,7 @@ returns c = record {
       (verdict_view verdict) (noticed t (heard_events before) found))) seen.stood.by
       (c.in_ok-push_notes.ensures (heard_events before) found
       (stands_before _ terms before h rule stands.trail seen.stood has.0)
-      (c.in_ok-note_refuted.ensures terms before h stands.misfits seen has.0)));
+      (c.in_ok-note_refuted.ensures terms before h stands.misfits seen has.0)
+      (subst (λ (t : Terms). AreRefusals t c.args.self.now.refusals (heard_events before))
+      (sym seen.stood.by) stands.refusals)));
 }
