@@ -17,7 +17,7 @@ use Rattle.lsp_redact.specs.Characters.{shown_text}
 use Rattle.lsp_redact.specs.Kept as kept
 use Rattle.lsp_redact.specs.Kept.{Kept, awaits, head_of, kept_of}
 use Rattle.lsp_redact.specs.Messages.{content_of}
-use Rattle.lsp_redact.specs.Names.{Names, act_names, head_names, joined, names_of, shown_id, shown_uri}
+use Rattle.lsp_redact.specs.Names.{Names, shown_id, shown_uri}
 use Rattle.lsp_redact.specs.Records.{records_of}
 use Rattle.lsp_redact.specs.Shown.{shown_act, shown_head, shown_kept}
 use Rattle.lsp_redact.proofs.GoodShown.{act_good, head_good, message_small}
@@ -25,7 +25,7 @@ use Rattle.lsp_redact.proofs.ReadActs.{IsSmallAct, notification_means, request_m
 use Rattle.lsp_redact.proofs.ReadMessages.{message_from, message_read}
 use Rattle.lsp_redact.proofs.ReadParams.{IsGoodAct, params_good}
 use Rattle.lsp_redact.proofs.ShownCharacters.{scalars-shown_text}
-use Rattle.lsp_redact.proofs.ShownEvents.{AreAmong, AreFew, joined_among, read_event}
+use Rattle.lsp_redact.proofs.ShownEvents.{read_event}
 use Rattle.lsp_redact.proofs.WrittenLogs.{Due, all_records, due_records, raw_of, shows, speaks}
 
 -- ---- what is due
@@ -53,7 +53,7 @@ same_kept own k h = cc
 same_act : (a b : Act) → (let o : Option Act = Some a in o) ≡ Some b → a ≡ b
 same_act a b h = cc
 
-module _ (names : Names) (few : AreFew names) (apart : Option ℕ) where
+module _ (names : Names) (apart : Option ℕ) where
   means : (side : Side) (awaited : Bool) (m : Message) (x : Act) → act_at side m ≡ Some x
       → IsSmallAct x × (IsGoodAct (shown_act names apart x)
       → act_at side (message_from (shown_head names (head_of awaited m)) (shown_act names apart x))
@@ -76,24 +76,19 @@ module _ (names : Names) (few : AreFew names) (apart : Option ℕ) where
       (same_act other x h) (tt, λ good. refl)
 
   message_back : (side : Side) (awaited : Bool) (s : Sent) (bytes : List ℕ) → IsSent side bytes s
-      → AreAmong names (joined (head_names (head_of awaited s.message)) (act_names s.act))
       → Reads (raw_of (due_of (shown_kept names apart
       (kept.message s.side (head_of awaited s.message) s.act))))
       (read_event names apart (shown_kept names apart
       (kept.message s.side (head_of awaited s.message) s.act)))
-  message_back side awaited s bytes is among =
+  message_back side awaited s bytes is =
       let own = means s.side awaited s.message s.act
       (subst (λ (x : Side). act_at x s.message ≡ Some s.act) (sym is.by) is.means) in
-      let parts = joined_among names apart (head_names (head_of awaited s.message))
-      (act_names s.act) among in
-      let good : IsGoodAct (shown_act names apart s.act) =
-      act_good names few apart s.act own.0 parts.1 in
+      let good : IsGoodAct (shown_act names apart s.act) = act_good names apart s.act own.0 in
       record {
         by = refl;
         reads = message_read (shown_head names (head_of awaited s.message))
             (shown_act names apart s.act)
-            (head_good names few apart awaited s.message
-            (message_small bytes s.message is.reads) parts.0)
+            (head_good names awaited s.message (message_small bytes s.message is.reads))
             (params_good (shown_act names apart s.act) good);
         means = own.1 good;
       }
@@ -104,15 +99,15 @@ module _ (names : Names) (few : AreFew names) (apart : Option ℕ) where
 
   -- **what is written of an event is read as it, shown**
   pub reads_shown : (before : List Event) (e : Event) (raw : Raw) (k : Kept)
-      → kept_of before e ≡ Some k → AreAmong names (names_of k) → Reads raw e → IsReadBack k
-  reads_shown before (message s) (content side bytes) k is among reads =
-      subst (λ (x : Kept). AreAmong names (names_of x) → IsReadBack x)
+      → kept_of before e ≡ Some k → Reads raw e → IsReadBack k
+  reads_shown before (message s) (content side bytes) k is reads =
+      subst IsReadBack
       (same_kept (kept.message s.side (head_of (awaits before) s.message) s.act) k is)
-      (λ own. message_back side (awaits before) s bytes reads own) among
-  reads_shown before (message s) (broken side rule) k is among reads = absurd cc
-  reads_shown before (message s) (show number uri text) k is among reads = absurd cc
-  reads_shown before (fault side rule) raw k is among reads = absurd cc
-  reads_shown before (snapshot uri number text) raw k is among reads =
+      (message_back side (awaits before) s bytes reads)
+  reads_shown before (message s) (broken side rule) k is reads = absurd cc
+  reads_shown before (message s) (show number uri text) k is reads = absurd cc
+  reads_shown before (fault side rule) raw k is reads = absurd cc
+  reads_shown before (snapshot uri number text) raw k is reads =
       subst IsReadBack (same_kept (kept.snapshot uri number text) k is)
       (ap (λ (t : List ℕ). snapshot (shown_uri names uri) number t)
       (sym (chars-encodes (shown_text apart text) (scalars-shown_text apart text))))

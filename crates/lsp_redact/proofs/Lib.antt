@@ -23,6 +23,7 @@ pub mod ReadParams
 pub mod ReadActs
 pub mod WrittenLogs
 pub mod ShownEvents
+pub mod Decimals
 pub mod GoodShown
 pub mod DueEvents
 pub mod WithinDues
@@ -35,3 +36,7 @@ pub mod SummaryNames
 pub mod ShownSnapshots
 pub mod RedactedLogs
 pub mod RedactedVerdicts
+pub mod NamesFew
+pub mod BrokenContents
+pub mod StoppedVerdicts
+pub mod RedactedLaws

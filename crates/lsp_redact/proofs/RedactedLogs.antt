@@ -1,6 +1,6 @@
 -- A log that is written of events has the verdict on them, up to names.
 use Rattle.std.proofs.Common.{◌≡◌, ℕ, ℤ, ◌+◌, ◌*◌, ◌≤◌, List, [], ◌∷◌, ◌++◌, length, map, Option, Some, None, true}
-use Rattle.std.proofs.Common.{refl, sym, ap, subst, ◌∙◌, arith}
+use Rattle.std.proofs.Common.{IsUtf8, refl, sym, ap, subst, ◌∙◌, arith}
 use Rattle.std.specs.Prelude.{encode_utf8_all}
 use Rattle.std.specs.List.{AllByRecursion, AllZip, flat_map}
 use Rattle.std.specs.Option.{option_or}
@@ -9,6 +9,8 @@ use Rattle.lsp_docs.specs.Documents.{terms_of}
 use Rattle.lsp_extract.proofs.Forming.Again.{IsSane}
 use Rattle.lsp_frame.specs.Bounds.{Bounds, IsInRange}
 use Rattle.lsp_frame.specs.declared.format.Format.{Format}
+use Rattle.lsp_rpc.specs.Params.{IsRefused}
+use Rattle.lsp_types.specs.declared.side.Side.{Side}
 use Rattle.lsp_log.specs.Log.{Fits, Record, first_line, shown, spelling}
 use Rattle.lsp_verdict.specs.Event.{Event, fault, message, snapshot}
 use Rattle.lsp_verdict.specs.LookBack.{each_from, first_from}
@@ -24,11 +26,12 @@ use Rattle.lsp_redact.specs.Names.{Names, names_of, shown_uri}
 use Rattle.lsp_redact.specs.Records.{records_of}
 use Rattle.lsp_redact.specs.Redacting.{apart_at}
 use Rattle.lsp_redact.specs.Shown.{shown_kept}
-use Rattle.lsp_redact.proofs.DueEvents.{all_records_are, due_of, reads_shown}
+use Rattle.lsp_redact.proofs.DueEvents.{all_records_are, reads_shown}
 use Rattle.lsp_redact.proofs.Numbering.{is_among}
-use Rattle.lsp_redact.proofs.ReadSessions.{all_read, dues_of}
-use Rattle.lsp_redact.proofs.ShownEvents.{AreAmong, AreFew, read_event}
-use Rattle.lsp_redact.proofs.ShownOffences.{no_shown}
+use Rattle.lsp_redact.proofs.ReadSessions.{AreRead, all_read, all_spoken, due_for, dues_of, read_for}
+use Rattle.lsp_redact.proofs.ReadSessions.{read_on}
+use Rattle.lsp_redact.proofs.ShownEvents.{AreAmong, AreFew}
+use Rattle.lsp_redact.proofs.ShownOffences.{fault_shown, no_shown}
 use Rattle.lsp_redact.proofs.ShownSessions.{AllAmong, NoFaults, clean_shown, no_faults, read_all}
 use Rattle.lsp_redact.proofs.ShownSessions.{summary_shown}
 use Rattle.lsp_redact.proofs.ShownSnapshots.{snapshot_fits}
@@ -52,47 +55,37 @@ all_within limits n (speaks side bytes ∷ dues) room short fit =
 all_within limits n (shows number uri text ∷ dues) room short fit =
     (fit.0, all_within limits n dues room short.1 fit.1)
 
+-- ---- one more
+
+zip_on : (ds : List Due) (es : List Event) (d : Due) (e : Event) → AllZip Reads (map raw_of ds) es
+    → Reads (raw_of d) e → AllZip Reads (map raw_of (ds ++ d ∷ [])) (es ++ e ∷ [])
+zip_on [] [] d e reads own = (own, tt)
+zip_on [] (x ∷ es) d e reads own = absurd reads
+zip_on (x ∷ ds) [] d e reads own = absurd reads
+zip_on (x ∷ ds) (y ∷ es) d e reads own = (reads.0, zip_on ds es d e reads.1 own)
+
+all_on : (P : Due → Type 0) (ds : List Due) (d : Due) → AllByRecursion P ds → P d
+    → AllByRecursion P (ds ++ d ∷ [])
+all_on P [] d all own = (own, tt)
+all_on P (x ∷ ds) d all own = (all.0, all_on P ds d all.1 own)
+
 module _ (limits : Bounds) (sizes : IsInRange limits) (names : Names) (few : AreFew names)
     (apart : Option ℕ) where
-  abbrev read_of : Kept → Event
-  read_of k = read_event names apart (shown_kept names apart k)
-
-  abbrev due_for : Kept → Due
-  due_for k = due_of (shown_kept names apart k)
-
   abbrev dues : List Kept → List Due
-  dues ks = dues_of names few apart ks
+  dues ks = dues_of names apart ks
 
   abbrev us : List Kept → List Event
   us ks = read_all names few apart ks
 
-  abbrev AreRead : List Kept → Type 0
-  AreRead ks = AllZip Reads (map raw_of (dues ks)) (us ks)
-
   abbrev AreFit : List Kept → Type 0
   AreFit ks = AllByRecursion (IsFit limits) (dues ks)
 
-  -- ---- one more
+  -- ---- what is due fits
 
-  read_on : (ks : List Kept) (k : Kept) → AreRead ks → Reads (raw_of (due_for k)) (read_of k)
-      → AreRead (ks ++ k ∷ [])
-  read_on [] k reads own = (own, tt)
-  read_on (x ∷ ks) k reads own = (reads.0, read_on ks k reads.1 own)
-
-  fit_on : (ks : List Kept) (k : Kept) → AreFit ks → IsFit limits (due_for k)
+  fit_on : (ks : List Kept) (k : Kept) → AreFit ks → IsFit limits (due_for names apart k)
       → AreFit (ks ++ k ∷ [])
   fit_on [] k fit own = (own, tt)
   fit_on (x ∷ ks) k fit own = (fit.0, fit_on ks k fit.1 own)
-
-  -- ---- what is due
-
-  spoken_one : (k : Kept) → Reads (raw_of (due_for k)) (read_of k) → IsSpoken (due_for k)
-  spoken_one (kept.message side head act) is = is.reads.1.0
-  spoken_one (kept.snapshot uri number text) is = tt
-
-  all_spoken : (ks : List Kept) → AreRead ks → AllByRecursion IsSpoken (dues ks)
-  all_spoken [] reads = tt
-  all_spoken (k ∷ ks) reads = (spoken_one k reads.0, all_spoken ks reads.1)
 
   abbrev IsFitEvent : Event → Type 0
   IsFitEvent (message s) = Unit {0}
@@ -108,16 +101,16 @@ module _ (limits : Bounds) (sizes : IsInRange limits) (names : Names) (few : Are
       subst IsFitEvent (sym reads) (λ among. snapshot_fits limits names few apart n u t among sane)
 
   fit_one : (before : List Event) (e : Event) (raw : Raw) (k : Kept) → kept_of before e ≡ Some k
-      → AreAmong names (names_of k) → IsSane limits raw → Reads raw e → IsFit limits (due_for k)
+      → AreAmong names (names_of k) → IsSane limits raw → Reads raw e → IsFit limits (due_for names apart k)
   fit_one before (message s) raw k is among sane reads =
-      subst (λ (x : Kept). IsFit limits (due_for x))
+      subst (λ (x : Kept). IsFit limits (due_for names apart x))
       (same_kept (kept.message s.side (kept.head_of (kept.awaits before) s.message) s.act) k is) tt
     where
       same_kept : (own x : Kept) → (let o : Option Kept = Some own in o) ≡ Some x → own ≡ x
       same_kept own x h = cc
   fit_one before (fault side rule) raw k is among sane reads = absurd (cc is)
   fit_one before (snapshot uri number text) raw k is among sane reads =
-      subst (λ (x : Kept). AreAmong names (names_of x) → IsFit limits (due_for x))
+      subst (λ (x : Kept). AreAmong names (names_of x) → IsFit limits (due_for names apart x))
       (same_kept (kept.snapshot uri number text) k is)
       (λ own. fit_snapshot raw uri number text sane reads own.uris.0) among
     where
@@ -158,14 +151,20 @@ module _ (limits : Bounds) (sizes : IsInRange limits) (names : Names) (few : Are
         is ∙ ap (λ (rs : List Record). first_line format ++ flat_map spelling rs)
         (sym (all_records_are most (map (shown_kept names apart) ks)))
 
-    kept_within : (ks : List Kept) → IsWrittenOf ks → AreRead ks → AreFit ks
+    due_within : (ds : List Due) → AllByRecursion IsSpoken ds → AllByRecursion (IsFit limits) ds
+        → out ≡ first_line format ++ flat_map spelling (all_records most ds)
+        → AllByRecursion (IsWithin limits) ds
+    due_within ds said fit is =
+        let text : List ℕ = flat_map spelling (all_records most ds) in
+        let whole : length out ≡ length (first_line format) + length text =
+        ap length is ∙ length-append (first_line format) text in
+        all_within limits (length out) ds room
+        (dues_short most (length out) ds full said (omega (arith, whole))) fit
+
+    kept_within : (ks : List Kept) → IsWrittenOf ks → AreRead names apart ks → AreFit ks
         → AllByRecursion (IsWithin limits) (dues ks)
     kept_within ks is reads fit =
-        let text : List ℕ = flat_map spelling (all_records most (dues ks)) in
-        let whole : length out ≡ length (first_line format) + length text =
-        ap length (due_written ks is) ∙ length-append (first_line format) text in
-        all_within limits (length out) (dues ks) room
-        (dues_short most (length out) (dues ks) full (all_spoken ks reads) (omega (arith, whole))) fit
+        due_within (dues ks) (all_spoken names apart ks reads) fit (due_written ks is)
 
     module _ (raws : List Raw) (es : List Event) (reads : AllZip Reads raws es)
         (sane : AllByRecursion (IsSane limits) raws)
@@ -174,8 +173,8 @@ module _ (limits : Bounds) (sizes : IsInRange limits) (names : Names) (few : Are
       sound : NoFaults es
       sound = no_faults (terms_of limits format) [] es clean
 
-      are_read : AreRead (kept_in es)
-      are_read = all_read names few apart [] raws es reads sound among
+      are_read : AreRead names apart (kept_in es)
+      are_read = all_read names apart [] raws es reads sound
 
       are_fit : AreFit (kept_in es)
       are_fit = all_fit [] raws es reads sane sound among
@@ -203,17 +202,46 @@ module _ (limits : Bounds) (sizes : IsInRange limits) (names : Names) (few : Are
           → IsVerdict limits out v
       no_redacted e raw k rule v is own read fits offends apart_is breaks is_written =
           let ks : List Kept = kept_in es ++ k ∷ [] in
-          let all : AreRead ks =
-          read_on (kept_in es) k are_read (reads_shown names few apart es e raw k is own read) in
+          let all : AreRead names apart ks =
+          read_on names apart (kept_in es) k are_read (reads_shown names apart es e raw k is read) in
           let fit : AreFit ks = fit_on (kept_in es) k are_fit (fit_one es e raw k is own fits read) in
-          let at : no_at (terms_of limits format) (us (kept_in es)) (read_of k) ≡ Some v =
+          let at : no_at (terms_of limits format) (us (kept_in es)) (read_for names apart k) ≡ Some v =
           no_shown names few apart (terms_of limits format) es e rule offends apart_is k sound among is
           own ∙ breaks in
           let first : first_no (terms_of limits format) (us ks) ≡ Some v =
-          ap (first_no (terms_of limits format)) (map-append read_of (kept_in es) (k ∷ []))
-          ∙ first_of-append (no_at (terms_of limits format)) (us (kept_in es)) (read_of k ∷ [])
+          ap (first_no (terms_of limits format)) (map-append (read_for names apart) (kept_in es) (k ∷ []))
+          ∙ first_of-append (no_at (terms_of limits format)) (us (kept_in es)) (read_for names apart k ∷ [])
           ∙ ap (λ (o : Option Verdict). option_or o
-          (first_from (no_at (terms_of limits format)) (us (kept_in es)) (read_of k ∷ []))) none_offends
+          (first_from (no_at (terms_of limits format)) (us (kept_in es)) (read_for names apart k ∷ []))) none_offends
           ∙ ap (λ (o : Option Verdict). option_or o None) at in
           no_written limits sizes out format most (dues ks) (us ks) full chunks
           (kept_within ks is_written all fit) all (due_written ks is_written) short v first
+
+      -- or at a content that is refused, for which another stands
+      pub fault_redacted : (side : Side) (rule : ℕ) (text : List ℕ) (v : Verdict)
+          → IsRefused side text rule → IsUtf8 text
+          → no_at (terms_of limits format) es (fault side rule) ≡ Some v
+          → out ≡ first_line format
+          ++ flat_map spelling (all_records most (dues (kept_in es) ++ speaks side text ∷ []))
+          → IsVerdict limits out v
+      fault_redacted side rule text v refused utf8 breaks is =
+          let last : List Due = speaks side text ∷ [] in
+          let ds : List Due = dues (kept_in es) ++ last in
+          let read : AllZip Reads (map raw_of ds) (us (kept_in es) ++ fault side rule ∷ []) =
+          zip_on (dues (kept_in es)) (us (kept_in es)) (speaks side text) (fault side rule) are_read
+          (refl, refused) in
+          let said : AllByRecursion IsSpoken ds =
+          all_on IsSpoken (dues (kept_in es)) (speaks side text)
+          (all_spoken names apart (kept_in es) are_read) utf8 in
+          let fit : AllByRecursion (IsFit limits) ds =
+          all_on (IsFit limits) (dues (kept_in es)) (speaks side text) are_fit tt in
+          let at : no_at (terms_of limits format) (us (kept_in es)) (fault side rule) ≡ Some v =
+          fault_shown names few apart (terms_of limits format) es side rule sound among ∙ breaks in
+          let first : first_no (terms_of limits format) (us (kept_in es) ++ fault side rule ∷ [])
+          ≡ Some v =
+          first_of-append (no_at (terms_of limits format)) (us (kept_in es)) (fault side rule ∷ [])
+          ∙ ap (λ (o : Option Verdict). option_or o (first_from (no_at (terms_of limits format))
+          (us (kept_in es)) (fault side rule ∷ []))) none_offends
+          ∙ ap (λ (o : Option Verdict). option_or o None) at in
+          no_written limits sizes out format most ds (us (kept_in es) ++ fault side rule ∷ []) full
+          chunks (due_within ds said fit is) read is short v first

@@ -1,20 +1,21 @@
 -- A log none of whose events offends: what `redact` writes of it has the same verdict, up to names.
-use Rattle.std.proofs.Common.{◌≡◌, ℕ, ◌*◌, ◌≤◌, Bool, true, false, List, [], ◌∷◌, ◌++◌, length, Option, Some}
-use Rattle.std.proofs.Common.{None, refl, sym, ap, subst, ◌∙◌, append_assoc, append-nil}
-use Rattle.std.specs.List.{AllZip}
+use Rattle.std.proofs.Common.{◌≡◌, ℕ, ◌+◌, ◌*◌, ◌≤◌, Bool, true, false, List, [], ◌∷◌, ◌++◌, length, Option}
+use Rattle.std.proofs.Common.{Some, None, refl, sym, ap, subst, ◌∙◌, append_assoc, append-nil, arith, map}
+use Rattle.std.specs.List.{AllZip, flat_map}
 use Rattle.std.specs.Option.{option_or}
 use Rattle.std.specs.Prelude.{is_some, unwrap_or}
 use Rattle.std.proofs.lemmas.Bool.{false≢true}
+use Rattle.std.proofs.lemmas.List.{length-append}
 use Rattle.lsp_docs.specs.Documents.{Terms, terms_of}
 use Rattle.lsp_extract.specs.Normal.{IsOnEvents}
 use Rattle.lsp_extract.proofs.Forming.Again.{log_fits, placed_sane}
 use Rattle.lsp_frame.specs.Bounds.{Bounds, IsInRange}
 use Rattle.lsp_frame.specs.declared.format.Format.{Format}
+use Rattle.lsp_log.specs.Log.{Record, first_line, spelling}
 use Rattle.lsp_log.specs.declared.fault.LogCode.{LogCode}
 use Rattle.lsp_replay.specs.Run.{EndsAfter, IsTold, SaysAll, Tail}
 use Rattle.lsp_replay.specs.Telling.{rule_of}
 use Rattle.lsp_replay.proofs.AllHeard.{first_after, none_is}
-use Rattle.lsp_log.specs.Log.{Record}
 use Rattle.lsp_verdict.specs.Event.{Event}
 use Rattle.lsp_verdict.specs.Heard.{Heard, Rests, heard_events, notes_of, raws_of}
 use Rattle.lsp_verdict.specs.Offences.{IsNoted, Noted, events_of}
@@ -26,10 +27,14 @@ use Rattle.lsp_verdict.proofs.Logs.{one_verdict}
 use Rattle.lsp_redact.specs.Kept.{Kept, kept_in}
 use Rattle.lsp_redact.specs.Laws.{shown_verdict}
 use Rattle.lsp_redact.specs.Names.{Names, names_in}
+use Rattle.lsp_redact.specs.Records.{records_of}
 use Rattle.lsp_redact.specs.Redacting.{SaysOf, log_by, redact_run}
+use Rattle.lsp_redact.specs.Shown.{shown_kept}
+use Rattle.lsp_redact.proofs.NamesFew.{all_plain, few_in}
+use Rattle.lsp_redact.proofs.ReadSessions.{all_read}
 use Rattle.lsp_redact.proofs.RedactedLogs.{yes_redacted}
 use Rattle.lsp_redact.proofs.ShownEvents.{AreFew}
-use Rattle.lsp_redact.proofs.ShownSessions.{own_among}
+use Rattle.lsp_redact.proofs.ShownSessions.{NoFaults, no_faults, own_among}
 use Rattle.lsp_redact.proofs.WrittenVerdicts.{same_format}
 
 -- ---- nothing is said, and none offends
@@ -61,7 +66,7 @@ all_clean most terms rests before (h ∷ later) out clean says =
 
 -- ---- the verdict on the log
 
-read_notes : (raws : List Raw) (notes : List Noted) → AllZip IsNoted raws notes
+pub read_notes : (raws : List Raw) (notes : List Noted) → AllZip IsNoted raws notes
     → AllZip Reads raws (events_of notes)
 read_notes [] [] all = tt
 read_notes [] (n ∷ notes) all = absurd all
@@ -98,7 +103,7 @@ module _ (limits : Bounds) (sizes : IsInRange limits) (log out : List ℕ) (outc
   told_reads : AllZip Reads (raws_of heard) es
   told_reads = read_notes (raws_of heard) (notes_of heard) told.session.noted
 
-  told_verdict : IsVerdict limits log
+  pub told_verdict : IsVerdict limits log
       (verdict terms es (ending tail.fault tail.rests.editor tail.rests.server))
   told_verdict = record {
     format = format;
@@ -118,10 +123,10 @@ module _ (limits : Bounds) (sizes : IsInRange limits) (log out : List ℕ) (outc
 
   -- **a Yes stays a Yes**
   pub yes_kept : (v : Verdict) → IsVerdict limits log v → IsOnEvents v
-      → EndsAfter (redact_run most) terms tail heard out outcome → AreFew own → 1 ≤ most
+      → EndsAfter (redact_run most) terms tail heard out outcome → 1 ≤ most
       → 4 * most ≤ limits.chunk → length out ≤ limits.log → length out ≤ limits.content
-      → IsVerdict limits out (shown_verdict own v)
-  yes_kept v whole on ends few full chunks short room =
+      → (names : Names) × IsVerdict limits out (shown_verdict names v)
+  yes_kept v whole on ends full chunks short room =
       let said = all_clean most terms tail.rests [] heard ends.front refl ends.said in
       let all : yes (summary terms es) ≡ v =
       yes_is terms es (first_no terms es) said.0 tail.fault tail.rests.editor tail.rests.server v on
@@ -130,9 +135,20 @@ module _ (limits : Bounds) (sizes : IsInRange limits) (log out : List ℕ) (outc
       ends.is ∙ (λ i. said.1 i ++ ends.closes.0 i)
       ∙ ap (λ (f : Format). log_by most f own None (kept_in es)) (same_format (format_or_one format))
       in
-      subst (λ (w : Verdict). IsVerdict limits out (shown_verdict own w)) all
-      (yes_redacted limits sizes own few None out (format_or_one format) most full chunks short room
-      (raws_of heard) es told_reads
-      (placed_sane limits [] [] records (raws_of heard)
-      (log_fits limits log format records tail.fault told.is_log) told.session.placed)
-      (own_among (kept_in es)) said.0 written)
+      let sound : NoFaults es = no_faults terms [] es said.0 in
+      let text : List ℕ =
+      flat_map spelling (flat_map (records_of most) (map (shown_kept own None) (kept_in es))) in
+      let whole_length : length out ≡ length (first_line (format_or_one format)) + length text =
+      ap length written ∙ length-append (first_line (format_or_one format)) text in
+      let few : AreFew own =
+      few_in own None limits sizes most full (kept_in es)
+      (all_read own None [] (raws_of heard) es told_reads sound)
+      (all_plain [] (raws_of heard) es told_reads sound) (omega (arith, whole_length, short)) in (
+        own,
+        subst (λ (w : Verdict). IsVerdict limits out (shown_verdict own w)) all
+            (yes_redacted limits sizes own few None out (format_or_one format) most full chunks short
+            room (raws_of heard) es told_reads
+            (placed_sane limits [] [] records (raws_of heard)
+            (log_fits limits log format records tail.fault told.is_log) told.session.placed)
+            (own_among (kept_in es)) said.0 written),
+      )

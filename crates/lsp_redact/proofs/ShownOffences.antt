@@ -6,7 +6,8 @@ use Rattle.lsp_docs.specs.Calls.{Call}
 use Rattle.lsp_docs.specs.Documents.{Terms}
 use Rattle.lsp_docs.specs.Rules.{call_rule}
 use Rattle.lsp_facts.specs.TwoTexts.{compared, is_of_texts, texts_of}
-use Rattle.lsp_verdict.specs.Event.{Event, call_at, calls}
+use Rattle.lsp_types.specs.declared.side.Side.{Side}
+use Rattle.lsp_verdict.specs.Event.{Event, call_at, calls, fault}
 use Rattle.lsp_verdict.specs.Verdict.{no_at, offence}
 use Rattle.lsp_redact.specs.Characters.{apart_in, shown_as, shown_bytes}
 use Rattle.lsp_redact.specs.Kept.{Kept, kept_in, kept_of}
@@ -26,6 +27,24 @@ use Rattle.lsp_redact.proofs.ShownCharacters.{keeps_texts}
 use Rattle.lsp_redact.proofs.ShownEvents.{AreAmong, AreFew, event_to, ids, keeps_methods, keeps_picks}
 use Rattle.lsp_redact.proofs.ShownEvents.{keeps_uris, like_shown, maps_texts, read_event, uri_by, value_by}
 use Rattle.lsp_redact.proofs.ShownSessions.{AllAmong, NoFaults, read_all, shown_result}
+
+-- a fault is the same, at the same place
+pub fault_shown : (names : Names) (few : AreFew names) (apart : Option ℕ) (terms : Terms)
+    (es : List Event) (side : Side) (rule : ℕ) → NoFaults es → AllAmong names few apart (kept_in es)
+    → no_at terms (read_all names few apart (kept_in es)) (fault side rule)
+    ≡ no_at terms es (fault side rule)
+fault_shown names few apart terms es side rule sound among =
+    let by_names : List Event = left_from [] es in
+    let left : HaveSameResult by_names es =
+    same_like [] [] by_names es none_heard (like_events [] es) in
+    no_same (read_all names few apart (kept_in es)) (map (event_to names apart few) by_names)
+    (shown_result names few apart terms es among sound) terms (fault side rule) (fault side rule)
+    (refl, refl)
+    ∙ no_at-by (uri_by names) (id_by names) (shown_method names) (encoding_by names)
+    (shown_bytes apart) (shown_as apart) (value_by names) (keeps_uris names few)
+    (ids names apart few) (keeps_methods names) (keeps_encodings names few.encodings)
+    (keeps_texts apart) (maps_texts apart) (keeps_picks names) terms by_names (fault side rule) refl
+    ∙ no_same by_names es left terms (fault side rule) (fault side rule) (refl, refl)
 
 module _ (names : Names) (few : AreFew names) (apart : Option ℕ) (terms : Terms) (es : List Event)
     (e : Event) (rule : ℕ) (offends : offence terms es e ≡ Some rule)

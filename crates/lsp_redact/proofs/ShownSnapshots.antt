@@ -66,5 +66,5 @@ snapshot_fits limits names few apart number uri text among f =
           (and_from (is_i32 number) (is_within 1 8192 (length (shown_uri names uri))) version
           (uri_short names few uri among))
           (ap (is_within 0 limits.document) (same_bytes apart text f.text.1) ∙ outer.1);
-      text = (uri_good names few uri among, IsUtf8-shown_bytes apart text);
+      text = (uri_good names uri, IsUtf8-shown_bytes apart text);
     }

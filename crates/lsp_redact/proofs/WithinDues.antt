@@ -1,11 +1,8 @@
 -- What is written of an event is no longer than the log that is written, and so within the limits.
-use Rattle.std.proofs.Common.{◌≡◌, ℕ, ◌+◌, ◌/◌, ◌%◌, ◌<◌, ◌≤◌, suc, zero, List, [], ◌∷◌, ◌++◌, length, take, drop}
-use Rattle.std.proofs.Common.{Bool, true, false, cond, IsUtf8, decimal, nat_lt, refl, sym, ap, ◌∙◌, arith}
-use Rattle.std.specs.Fmt.{digit_glyph, digits, digits_onto}
-use Rattle.std.specs.Prelude.{◌==◌, chars, codes, encode_utf8_all}
+use Rattle.std.proofs.Common.{◌≡◌, ℕ, ◌+◌, ◌≤◌, suc, zero, List, [], ◌∷◌, ◌++◌, length, take, drop, IsUtf8}
+use Rattle.std.proofs.Common.{decimal, refl, sym, ap, ◌∙◌, arith}
+use Rattle.std.specs.Prelude.{chars, codes, encode_utf8_all}
 use Rattle.std.specs.List.{AllByRecursion, flat_map}
-use Rattle.std.proofs.lemmas.Bool.{and_from}
-use Rattle.std.proofs.lemmas.Bool.Decides.{nat_tests}
 use Rattle.std.proofs.lemmas.Grind.{flat_map-append}
 use Rattle.std.proofs.lemmas.List.{length-append, length-drop, take-append-drop}
 use Rattle.std.proofs.lemmas.Str.{IsUtf8-append, encodes-append, encodes-chars}
@@ -15,35 +12,8 @@ use Rattle.lsp_frame.specs.Sink.{canonical}
 use Rattle.lsp_log.specs.Log.{Record, chunk, head_line, head_of, spelling, with_feed}
 use Rattle.lsp_types.specs.declared.side.Side.{Side}
 use Rattle.lsp_redact.specs.Records.{content_records}
+use Rattle.lsp_redact.proofs.Decimals.{utf8_decimal}
 use Rattle.lsp_redact.proofs.WrittenLogs.{Due, all_records, due_records, parts, parts_some, shows, speaks}
-
--- ---- a number, however long
-
-digit_small : (d : ℕ) → d < 10 → nat_lt (digit_glyph false d) 128 ≡ true
-digit_small d less =
-    let is : nat_lt d 10 ≡ true = grind (arith, nat_tests) in
-    let small : nat_lt (48 + d) 128 ≡ true = grind (arith, nat_tests) in
-    ap (λ (b : Bool). nat_lt (cond b (48 + d) (87 + d)) 128) is ∙ small
-
-onto_ascii : (k n : ℕ) (acc : List ℕ) → are_ascii acc ≡ true
-    → are_ascii (digits_onto k 10 false n acc) ≡ true
-onto_ascii zero n acc h = h
-onto_ascii (suc k) n acc h =
-    by_test (λ more. onto_ascii k (n / 10) (digit_glyph false (n % 10) ∷ acc) more) (n / 10 == 0)
-  where
-    with_it : are_ascii (digit_glyph false (n % 10) ∷ acc) ≡ true
-    with_it = and_from _ _ (digit_small (n % 10) (omega arith)) h
-
-    by_test : (are_ascii (digit_glyph false (n % 10) ∷ acc) ≡ true
-        → are_ascii (digits_onto k 10 false (n / 10) (digit_glyph false (n % 10) ∷ acc)) ≡ true)
-        → (b : Bool) → are_ascii (cond b (digit_glyph false (n % 10) ∷ acc)
-        (digits_onto k 10 false (n / 10) (digit_glyph false (n % 10) ∷ acc))) ≡ true
-    by_test rest true = with_it
-    by_test rest false = rest with_it
-
-utf8_decimal : (n : ℕ) → IsUtf8 (decimal n)
-unfolding digits
-utf8_decimal n = IsUtf8-are_ascii (decimal n) (onto_ascii 64 n [] refl)
 
 -- ---- a frame
 
@@ -94,7 +64,7 @@ parts_long most side (suc n) (c ∷ cs) full within =
     (flat_map spelling (parts most side (drop most all))) in
     omega (arith, later, spelled_long side first, whole, spelled)
 
-content_long : (most : ℕ) (side : Side) (bytes : List ℕ) → 1 ≤ most → IsUtf8 (canonical bytes)
+pub content_long : (most : ℕ) (side : Side) (bytes : List ℕ) → 1 ≤ most → IsUtf8 (canonical bytes)
     → length bytes ≤ length (flat_map spelling (content_records most side bytes))
 content_long most side bytes full utf8 =
     let text : List ℕ = canonical bytes in
