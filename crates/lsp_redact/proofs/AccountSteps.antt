@@ -96,29 +96,27 @@ module _ (terms : Terms) (before : List Heard) (h : Heard) where
 
   -- the account stands for one event more
   pub keeps_on : (old new : Redacting) → Keeps old terms before → rule_of terms before h ≡ None
-      → new.most ≡ old.most
       → map kept_view new.kept.items
       ≡ map kept_view old.kept.items ++ option_to_list (kept_of events h.note.event)
       → new.awaits ≡ awaits (heard_events (before ++ h ∷ []))
       → Keeps new terms (before ++ h ∷ [])
-  keeps_on old new stands kept same added waits = record {
+  keeps_on old new stands kept added waits = record {
     clean = first_after terms before h stands.clean ∙ none_is terms before h kept;
     kept_is = added
         ∙ ap (λ (ks : List Kept). ks ++ option_to_list (kept_of events h.note.event)) stands.kept_is
         ∙ sym (kept_in-push events h.note.event) ∙ ap kept_in (sym (events-push before h));
     awaits_is = waits;
-    some = subst (λ (n : ℕ). 0 < n) (sym same) stands.some;
   }
 
   -- nothing is said of it
-  pub says_none : (old new : Redacting) (Fits : Rests → Type 0) (text : List ℕ)
+  pub says_none : (most : ℕ) (new : Redacting) (Fits : Rests → Type 0) (text : List ℕ)
       → rule_of terms before h ≡ None → Keeps new terms (before ++ h ∷ [])
-      → Says (redact_run old.most) terms before h Fits text text
+      → Says (redact_run most) terms before h Fits text text
       (Keeps new terms (before ++ h ∷ [])) GoOn
-  says_none old new Fits text kept stands = record {
+  says_none most new Fits text kept stands = record {
     said = [];
     added = sym (append-nil text);
-    is = λ rests fits. subst (λ (o : Option ℕ). SaysOf old.most terms before h o []) (sym kept) refl;
+    is = λ rests fits. subst (λ (o : Option ℕ). SaysOf most terms before h o []) (sym kept) refl;
     goes = (ap is_some kept, stands);
   }
 

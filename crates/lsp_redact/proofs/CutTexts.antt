@@ -1,7 +1,7 @@
 -- Texts that are cut between characters.
 use Rattle.std.proofs.Common.{◌≡◌, ℕ, ◌+◌, ◌-◌, ◌<◌, ◌≤◌, Bool, true, List, [], ◌∷◌, ◌++◌, length, take, drop}
 use Rattle.std.proofs.Common.{refl, sym, ap, subst, ◌∙◌, Option, Some, None, append_assoc, append-nil, arith}
-use Rattle.std.proofs.Common.{inl, inr, IsUtf8, map, suc, zero}
+use Rattle.std.proofs.Common.{inl, inr, IsUtf8, map, max, suc, zero}
 use Rattle.std.specs.Prelude.{MatchOption, chars, encode_utf8_all}
 use Rattle.std.specs.Iterator.{SkipsThenYields, Yields}
 use Rattle.std.specs.List.{flat_map}
@@ -200,3 +200,36 @@ spelled_on side most text front back written is =
     append_assoc written (spelling (chunk side front))
     (flat_map spelling (map (chunk side) (pieces most back)))
     ∙ ap (λ (ps : List (List ℕ)). written ++ flat_map spelling (map (chunk side) ps)) (sym is)
+
+-- ---- as the code cuts them
+
+-- where an iterator stands that passed over so many characters, and gave one
+pub front_at : (text : List ℕ) (s u : Chars) (most : ℕ) (r : Option ℕ) → IsUtf8 text
+    → chars_rest s ≡ text → SkipsThenYields chars_steps s (most - 1) r u
+    → IsFront text (max most 1) (length text - length (chars_rest u))
+front_at text s u most r utf8 starts ran =
+    let one : 0 < max most 1 = omega arith in
+    let same : most - 1 ≡ max most 1 - 1 = omega arith in
+    front_by text s u (max most 1) r utf8 one starts
+    (subst (λ (k : ℕ). SkipsThenYields chars_steps s k r u) same ran)
+
+-- the last piece is cut off
+pub pieces_end : (side : Side) (most : ℕ) (written all : List ℕ) (rest : List ℕ) → rest ≡ []
+    → written ++ flat_map spelling (map (chunk side) (pieces most rest)) ≡ all → written ≡ all
+pieces_end side most written all rest none is =
+    sym (append-nil written)
+    ∙ ap (λ (ps : List (List ℕ)). written ++ flat_map spelling (map (chunk side) ps))
+    (sym (ap (pieces most) none ∙ pieces_none most))
+    ∙ is
+
+-- one more is
+pub pieces_on : (side : Side) (most : ℕ) (rest front back old new all : List ℕ) → 1 ≤ most
+    → 1 ≤ length (chars rest) → IsUtf8 front → chars front ≡ take most (chars rest)
+    → chars back ≡ drop most (chars rest) → new ≡ old ++ spelling (chunk side front)
+    → old ++ flat_map spelling (map (chunk side) (pieces most rest)) ≡ all
+    → new ++ flat_map spelling (map (chunk side) (pieces most back)) ≡ all
+pieces_on side most rest front back old new all full some utf8 first last is before =
+    ap (λ (w : List ℕ). w ++ flat_map spelling (map (chunk side) (pieces most back))) is
+    ∙ spelled_on side most rest front back old
+    (pieces_some most rest front back full some utf8 first last)
+    ∙ before

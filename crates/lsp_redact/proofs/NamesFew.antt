@@ -1,8 +1,8 @@
 -- The names in what is written are fewer than its bytes.
 use Rattle.std.proofs.Common.{◌≡◌, ℕ, ◌+◌, ◌≤◌, ◌^◌, Bool, true, false, List, [], ◌∷◌, ◌++◌, map, length}
-use Rattle.std.proofs.Common.{filter, Option, Some, None, refl, sym, ap, subst, ◌∙◌, arith, length-append}
+use Rattle.std.proofs.Common.{filter, Option, Some, None, ap, ◌∙◌, arith, length-append}
 use Rattle.std.specs.Prelude.{codes, encode_utf8_all, not}
-use Rattle.std.specs.List.{AllByRecursion, AllZip, flat_map}
+use Rattle.std.specs.List.{AllByRecursion, flat_map}
 use Rattle.std.specs.Option.{option_map}
 use Rattle.std.proofs.lemmas.Grind.{flat_map-append}
 use Rattle.std.proofs.lemmas.List.{length-map}
@@ -17,29 +17,22 @@ use Rattle.lsp_rpc.specs.Act.{Act, Offer, Text, cancel, did_change, did_close, d
 use Rattle.lsp_rpc.specs.Act.{exit, initialize, initialized, other, progress, register, shutdown}
 use Rattle.lsp_rpc.specs.Ident as ident
 use Rattle.lsp_rpc.specs.Ident.{Ident}
-use Rattle.lsp_rpc.specs.Message as spoken
-use Rattle.lsp_rpc.specs.Message.{Message}
-use Rattle.lsp_rpc.specs.Params.{act_at}
 use Rattle.lsp_types.specs.declared.side.Side.{Side}
-use Rattle.lsp_verdict.specs.Event.{Event, fault, message, snapshot}
-use Rattle.lsp_verdict.specs.LookBack.{each_from}
-use Rattle.lsp_verdict.specs.Placed.{Raw, Reads, broken, content, show}
 use Rattle.lsp_verdict.proofs.ExactCounts.{spelling_some}
 use Rattle.lsp_redact.specs.Characters.{shown_text}
 use Rattle.lsp_redact.specs.Kept as kept
-use Rattle.lsp_redact.specs.Kept.{Head, Kept, Reply, awaits, head_of, kept_of}
+use Rattle.lsp_redact.specs.Kept.{Head, Kept, Reply}
 use Rattle.lsp_redact.specs.Messages.{called_members, content_of, id_data, list, members_of, member_if}
 use Rattle.lsp_redact.specs.Messages.{offer_data, offered_data, params_of, registered_data}
 use Rattle.lsp_redact.specs.Messages.{registration_data, text_data, version_data}
 use Rattle.lsp_redact.specs.Names.{Names, act_names, encoding_names, given_names, head_names, id_names}
-use Rattle.lsp_redact.specs.Names.{is_encoding, is_known, joined, method_names, names_in, names_of}
+use Rattle.lsp_redact.specs.Names.{is_encoding, is_known, joined, method_names, names_in, names_of, no_names}
 use Rattle.lsp_redact.specs.Names.{offer_names, offered_names, reply_names, shown_encoding, shown_id}
 use Rattle.lsp_redact.specs.Names.{shown_method, shown_uri}
 use Rattle.lsp_redact.specs.Records.{records_of}
 use Rattle.lsp_redact.specs.Shown.{shown_act, shown_head, shown_kept, shown_offer}
 use Rattle.lsp_redact.proofs.ReadSessions.{AreRead, all_spoken, due_for, dues_of}
 use Rattle.lsp_redact.proofs.ShownEvents.{AreFew}
-use Rattle.lsp_redact.proofs.ShownSessions.{NoFaults}
 use Rattle.lsp_redact.proofs.WithinDues.{IsSpoken, content_long, utf8_canonical}
 
 -- ---- how many names there are
@@ -143,13 +136,6 @@ list_long (d ∷ ds) = omega (
 
 -- ---- an act
 
--- a response means nothing
-abbrev pub IsPlain : Kept → Type 0
-IsPlain (kept.message side (kept.request id method) x) = Unit {0}
-IsPlain (kept.message side (kept.notification method) x) = Unit {0}
-IsPlain (kept.message side (kept.response id reply) x) = x ≡ other
-IsPlain (kept.snapshot uri number text) = Unit {0}
-
 -- how many bytes are written of params
 abbrev written : Option Data → ℕ
 written None = 0
@@ -247,10 +233,10 @@ module _ (names : Names) (apart : Option ℕ) where
     member_long false (codes "id") (id_data id) (called_members None method params),
   )
 
-  message_long : (side : Side) (head : Head) (x : Act) → IsPlain (kept.message side head x)
+  message_long : (side : Side) (head : Head) (x : Act)
       → total (names_of (kept.message side head x))
       ≤ length (content_of (shown_head names head) (shown_act names apart x))
-  message_long side (kept.request id method) x plain = omega (
+  message_long side (kept.request id method) x = omega (
     arith,
     total-joined (head_names (kept.request id method)) (act_names x),
     head_total (kept.request id method),
@@ -258,23 +244,20 @@ module _ (names : Names) (apart : Option ℕ) where
     call_long (Some (shown_id names id)) (shown_method names method)
         (params_of (shown_act names apart x)),
   )
-  message_long side (kept.notification method) x plain = omega (
+  message_long side (kept.notification method) x = omega (
     arith,
     total-joined (head_names (kept.notification method)) (act_names x),
     head_total (kept.notification method),
     act_long x,
     call_long None (shown_method names method) (params_of (shown_act names apart x)),
   )
-  message_long side (kept.response id reply) x plain =
-      let none : total (act_names x) ≡ 0 = ap (λ (y : Act). total (act_names y)) plain in
-      omega (
-        arith,
-        none,
-        total-joined (head_names (kept.response id reply)) (act_names x),
-        head_total (kept.response id reply),
-        members_some false (members_of (shown_head names (kept.response id reply))
-            (shown_act names apart x)),
-      )
+  message_long side (kept.response id reply) x = omega (
+    arith,
+    total-joined (head_names (kept.response id reply)) no_names,
+    head_total (kept.response id reply),
+    members_some false (members_of (shown_head names (kept.response id reply))
+        (shown_act names apart x)),
+  )
 
   -- ---- a log
 
@@ -286,24 +269,24 @@ module _ (names : Names) (apart : Option ℕ) where
     spelled_all ks =
         flat_map spelling (flat_map (records_of most) (map (shown_kept names apart) ks))
 
-    kept_long : (k : Kept) → IsSpoken (due_for names apart k) → IsPlain k → total (names_of k) ≤ length (spelled k)
-    kept_long (kept.message side head x) said plain =
+    kept_long : (k : Kept) → IsSpoken (due_for names apart k) → total (names_of k) ≤ length (spelled k)
+    kept_long (kept.message side head x) said =
         let bytes : List ℕ = content_of (shown_head names head) (shown_act names apart x) in
         omega (
           arith,
-          message_long side head x plain,
+          message_long side head x,
           content_long most side bytes full (utf8_canonical bytes said),
         )
-    kept_long (kept.snapshot uri number text) said plain =
+    kept_long (kept.snapshot uri number text) said =
         let r : Record = shown number (shown_uri names uri)
         (encode_utf8_all (shown_text apart text)) in
         omega (arith, length-append (spelling r) [], spelling_some r)
 
     -- the names in what is kept are no more than the bytes that are written of it
     names_long : (ks : List Kept) → AllByRecursion IsSpoken (dues_of names apart ks)
-        → AllByRecursion IsPlain ks → total (names_in ks) ≤ length (spelled_all ks)
-    names_long [] said plain = omega arith
-    names_long (k ∷ ks) said plain =
+        → total (names_in ks) ≤ length (spelled_all ks)
+    names_long [] said = omega arith
+    names_long (k ∷ ks) said =
         let rest : List Record = flat_map (records_of most) (map (shown_kept names apart) ks) in
         let both : length (spelled_all (k ∷ ks)) ≡ length (spelled k) + length (spelled_all ks) =
         ap length (flat_map-append spelling (records_of most (shown_kept names apart k)) rest)
@@ -312,70 +295,19 @@ module _ (names : Names) (apart : Option ℕ) where
           arith,
           both,
           total-joined (names_of k) (names_in ks),
-          kept_long k said.0 plain.0,
-          names_long ks said.1 plain.1,
+          kept_long k said.0,
+          names_long ks said.1,
         )
-
--- ---- what is kept of events
-
-same_kept : (own k : Kept) → (let o : Option Kept = Some own in o) ≡ Some k → own ≡ k
-same_kept own k h = cc
-
-other_is : (x : Act) → (let o : Option Act = Some other in o) ≡ Some x → x ≡ other
-other_is x h = sym (same other x h)
-  where
-    same : (a b : Act) → (let o : Option Act = Some a in o) ≡ Some b → a ≡ b
-    same a b h = cc
-
-sent_plain : (side own : Side) (awaited : Bool) (m : Message) (x : Act) → act_at side m ≡ Some x
-    → IsPlain (kept.message own (head_of awaited m) x)
-sent_plain side own true (spoken.request id method params) x h = tt
-sent_plain side own false (spoken.request id method params) x h = tt
-sent_plain side own true (spoken.notification method params) x h = tt
-sent_plain side own false (spoken.notification method params) x h = tt
-sent_plain side own true (spoken.response id reply) x h = other_is x h
-sent_plain side own false (spoken.response id reply) x h = other_is x h
-
-pub event_plain : (before : List Event) (e : Event) (raw : Raw) (k : Kept)
-    → kept_of before e ≡ Some k → Reads raw e → IsPlain k
-event_plain before (message s) (content side bytes) k is reads =
-    subst IsPlain (same_kept (kept.message s.side (head_of (awaits before) s.message) s.act) k is)
-    (sent_plain side s.side (awaits before) s.message s.act reads.means)
-event_plain before (message s) (broken side rule) k is reads = absurd cc
-event_plain before (message s) (show number uri text) k is reads = absurd cc
-event_plain before (fault side rule) raw k is reads = absurd cc
-event_plain before (snapshot uri number text) raw k is reads =
-    subst IsPlain (same_kept (kept.snapshot uri number text) k is) tt
-
-pub all_plain : (before : List Event) (raws : List Raw) (es : List Event) → AllZip Reads raws es
-    → NoFaults es → AllByRecursion IsPlain (each_from kept_of before es)
-all_plain before [] [] reads sound = tt
-all_plain before [] (e ∷ es) reads sound = absurd reads
-all_plain before (raw ∷ raws) [] reads sound = absurd reads
-all_plain before (raw ∷ raws) (message s ∷ es) reads sound = (
-  event_plain before (message s) raw _ refl reads.0,
-  all_plain (before ++ message s ∷ []) raws es reads.1 sound,
-)
-all_plain before (raw ∷ raws) (fault side rule ∷ es) reads sound = absurd sound
-all_plain before (raw ∷ raws) (snapshot uri number text ∷ es) reads sound = (
-  event_plain before (snapshot uri number text) raw _ refl reads.0,
-  all_plain (before ++ snapshot uri number text ∷ []) raws es reads.1 sound,
-)
-
-pub plain_on : (ks : List Kept) (k : Kept) → AllByRecursion IsPlain ks → IsPlain k
-    → AllByRecursion IsPlain (ks ++ k ∷ [])
-plain_on [] k plain own = (own, tt)
-plain_on (x ∷ ks) k plain own = (plain.0, plain_on ks k plain.1 own)
 
 -- **the names in what is kept are few**, where a log has room for what is written of it
 pub few_in : (names : Names) (apart : Option ℕ) (limits : Bounds) → IsInRange limits → (most : ℕ)
-    → 1 ≤ most → (ks : List Kept) → AreRead names apart ks → AllByRecursion IsPlain ks
+    → 1 ≤ most → (ks : List Kept) → AreRead names apart ks
     → length (flat_map spelling (flat_map (records_of most) (map (shown_kept names apart) ks)))
     ≤ limits.log → AreFew (names_in ks)
-few_in names apart limits sizes most full ks reads plain room =
+few_in names apart limits sizes most full ks reads room =
     let fewer : total (names_in ks) ≤ 2 ^ 40 = omega (
       arith,
-      names_long names apart most full ks (all_spoken names apart ks reads) plain,
+      names_long names apart most full ks (all_spoken names apart ks reads),
       room,
       sizes.log_high,
     ) in

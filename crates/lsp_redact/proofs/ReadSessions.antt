@@ -10,7 +10,7 @@ use Rattle.lsp_redact.specs.Names.{Names}
 use Rattle.lsp_redact.specs.Shown.{shown_kept}
 use Rattle.lsp_redact.proofs.DueEvents.{due_of, reads_shown}
 use Rattle.lsp_redact.proofs.ShownEvents.{read_event}
-use Rattle.lsp_redact.proofs.ShownSessions.{NoFaults}
+use Rattle.lsp_redact.proofs.ShownSessions.{AreSound}
 use Rattle.lsp_redact.proofs.WithinDues.{IsSpoken}
 use Rattle.lsp_redact.proofs.WrittenLogs.{Due, raw_of}
 
@@ -29,13 +29,13 @@ module _ (names : Names) (apart : Option ℕ) where
   AreRead ks = AllZip Reads (map raw_of (dues_of ks)) (map read_for ks)
 
   pub all_read : (before : List Event) (raws : List Raw) (es : List Event) → AllZip Reads raws es
-      → NoFaults es → AreRead (each_from kept_of before es)
+      → AreSound es → AreRead (each_from kept_of before es)
   all_read before [] [] reads sound = tt
   all_read before [] (e ∷ es) reads sound = absurd reads
   all_read before (raw ∷ raws) [] reads sound = absurd reads
   all_read before (raw ∷ raws) (message s ∷ es) reads sound = (
     reads_shown names apart before (message s) raw _ refl reads.0,
-    all_read (before ++ message s ∷ []) raws es reads.1 sound,
+    all_read (before ++ message s ∷ []) raws es reads.1 sound.1,
   )
   all_read before (raw ∷ raws) (fault side rule ∷ es) reads sound = absurd sound
   all_read before (raw ∷ raws) (snapshot uri number text ∷ es) reads sound = (

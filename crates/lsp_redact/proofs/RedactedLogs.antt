@@ -30,9 +30,9 @@ use Rattle.lsp_redact.proofs.DueEvents.{all_records_are, reads_shown}
 use Rattle.lsp_redact.proofs.Numbering.{is_among}
 use Rattle.lsp_redact.proofs.ReadSessions.{AreRead, all_read, all_spoken, due_for, dues_of, read_for}
 use Rattle.lsp_redact.proofs.ReadSessions.{read_on}
-use Rattle.lsp_redact.proofs.ShownEvents.{AreAmong, AreFew}
+use Rattle.lsp_redact.proofs.ShownEvents.{AreAmong, AreFew, read_meant}
 use Rattle.lsp_redact.proofs.ShownOffences.{fault_shown, no_shown}
-use Rattle.lsp_redact.proofs.ShownSessions.{AllAmong, NoFaults, clean_shown, no_faults, read_all}
+use Rattle.lsp_redact.proofs.ShownSessions.{AllAmong, AreSound, clean_shown, read_all, sound_events}
 use Rattle.lsp_redact.proofs.ShownSessions.{summary_shown}
 use Rattle.lsp_redact.proofs.ShownSnapshots.{snapshot_fits}
 use Rattle.lsp_redact.proofs.SummaryNames.{summary_named}
@@ -118,7 +118,7 @@ module _ (limits : Bounds) (sizes : IsInRange limits) (names : Names) (few : Are
       same_kept own x h = cc
 
   all_fit : (before : List Event) (raws : List Raw) (es : List Event) → AllZip Reads raws es
-      → AllByRecursion (IsSane limits) raws → NoFaults es
+      → AllByRecursion (IsSane limits) raws → AreSound es
       → AllAmong names few apart (each_from kept_of before es)
       → AreFit (each_from kept_of before es)
   all_fit before [] [] reads sane sound among = tt
@@ -126,7 +126,7 @@ module _ (limits : Bounds) (sizes : IsInRange limits) (names : Names) (few : Are
   all_fit before (raw ∷ raws) [] reads sane sound among = absurd reads
   all_fit before (raw ∷ raws) (message s ∷ es) reads sane sound among = (
     fit_one before (message s) raw _ refl among.0 sane.0 reads.0,
-    all_fit (before ++ message s ∷ []) raws es reads.1 sane.1 sound among.1,
+    all_fit (before ++ message s ∷ []) raws es reads.1 sane.1 sound.1 among.1,
   )
   all_fit before (raw ∷ raws) (fault side rule ∷ es) reads sane sound among = absurd sound
   all_fit before (raw ∷ raws) (snapshot uri number text ∷ es) reads sane sound among = (
@@ -170,8 +170,8 @@ module _ (limits : Bounds) (sizes : IsInRange limits) (names : Names) (few : Are
         (sane : AllByRecursion (IsSane limits) raws)
         (among : AllAmong names few apart (kept_in es))
         (clean : first_no (terms_of limits format) es ≡ None) where
-      sound : NoFaults es
-      sound = no_faults (terms_of limits format) [] es clean
+      sound : AreSound es
+      sound = sound_events (terms_of limits format) [] raws es reads clean
 
       are_read : AreRead names apart (kept_in es)
       are_read = all_read names apart [] raws es reads sound
@@ -180,14 +180,14 @@ module _ (limits : Bounds) (sizes : IsInRange limits) (names : Names) (few : Are
       are_fit = all_fit [] raws es reads sane sound among
 
       none_offends : first_no (terms_of limits format) (us (kept_in es)) ≡ None
-      none_offends = clean_shown names few apart (terms_of limits format) es among clean
+      none_offends = clean_shown names few apart (terms_of limits format) es among sound clean
 
       -- **Yes stays Yes**, with the same result up to names
       pub yes_redacted : IsWrittenOf (kept_in es)
           → IsVerdict limits out (yes (shown_summary names (summary (terms_of limits format) es)))
       yes_redacted is =
           subst (λ (s : Summary). IsVerdict limits out (yes s))
-          (summary_shown names few apart (terms_of limits format) es among clean
+          (summary_shown names few apart (terms_of limits format) es among sound
           ∙ summary_named names few apart (terms_of limits format) es sound among)
           (yes_written limits sizes out format most (dues (kept_in es)) (us (kept_in es)) full chunks
           (kept_within (kept_in es) is are_read are_fit) are_read (due_written (kept_in es) is) short
@@ -206,8 +206,8 @@ module _ (limits : Bounds) (sizes : IsInRange limits) (names : Names) (few : Are
           read_on names apart (kept_in es) k are_read (reads_shown names apart es e raw k is read) in
           let fit : AreFit ks = fit_on (kept_in es) k are_fit (fit_one es e raw k is own fits read) in
           let at : no_at (terms_of limits format) (us (kept_in es)) (read_for names apart k) ≡ Some v =
-          no_shown names few apart (terms_of limits format) es e rule offends apart_is k sound among is
-          own ∙ breaks in
+          no_shown names few apart (terms_of limits format) es e rule offends apart_is k sound among
+          (read_meant raw e read) is own ∙ breaks in
           let first : first_no (terms_of limits format) (us ks) ≡ Some v =
           ap (first_no (terms_of limits format)) (map-append (read_for names apart) (kept_in es) (k ∷ []))
           ∙ first_of-append (no_at (terms_of limits format)) (us (kept_in es)) (read_for names apart k ∷ [])

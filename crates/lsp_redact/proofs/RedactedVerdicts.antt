@@ -30,11 +30,11 @@ use Rattle.lsp_redact.specs.Names.{Names, names_in}
 use Rattle.lsp_redact.specs.Records.{records_of}
 use Rattle.lsp_redact.specs.Redacting.{SaysOf, log_by, redact_run}
 use Rattle.lsp_redact.specs.Shown.{shown_kept}
-use Rattle.lsp_redact.proofs.NamesFew.{all_plain, few_in}
+use Rattle.lsp_redact.proofs.NamesFew.{few_in}
 use Rattle.lsp_redact.proofs.ReadSessions.{all_read}
 use Rattle.lsp_redact.proofs.RedactedLogs.{yes_redacted}
 use Rattle.lsp_redact.proofs.ShownEvents.{AreFew}
-use Rattle.lsp_redact.proofs.ShownSessions.{NoFaults, no_faults, own_among}
+use Rattle.lsp_redact.proofs.ShownSessions.{AreSound, own_among, sound_events}
 use Rattle.lsp_redact.proofs.WrittenVerdicts.{same_format}
 
 -- ---- nothing is said, and none offends
@@ -135,15 +135,14 @@ module _ (limits : Bounds) (sizes : IsInRange limits) (log out : List ℕ) (outc
       ends.is ∙ (λ i. said.1 i ++ ends.closes.0 i)
       ∙ ap (λ (f : Format). log_by most f own None (kept_in es)) (same_format (format_or_one format))
       in
-      let sound : NoFaults es = no_faults terms [] es said.0 in
+      let sound : AreSound es = sound_events terms [] (raws_of heard) es told_reads said.0 in
       let text : List ℕ =
       flat_map spelling (flat_map (records_of most) (map (shown_kept own None) (kept_in es))) in
       let whole_length : length out ≡ length (first_line (format_or_one format)) + length text =
       ap length written ∙ length-append (first_line (format_or_one format)) text in
       let few : AreFew own =
       few_in own None limits sizes most full (kept_in es)
-      (all_read own None [] (raws_of heard) es told_reads sound)
-      (all_plain [] (raws_of heard) es told_reads sound) (omega (arith, whole_length, short)) in (
+      (all_read own None [] (raws_of heard) es told_reads sound) (omega (arith, whole_length, short)) in (
         own,
         subst (λ (w : Verdict). IsVerdict limits out (shown_verdict own w)) all
             (yes_redacted limits sizes own few None out (format_or_one format) most full chunks short

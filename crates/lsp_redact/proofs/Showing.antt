@@ -86,3 +86,36 @@ pub writes_after : {X Y : Type 0} {old mid new : Redaction} {a b : Names} {f : N
     → Writes mid new b (g old.apart) y
 writes_after {mid = mid} {new = new} {b = b} g y h k =
     subst (λ (apart : Option ℕ). Writes mid new b (g apart) y) h.same k
+
+-- ---- small steps
+
+-- what has no names
+pub shows_same : {X : Type 0} (names : code.Names) (x y : X) → y ≡ x
+    → Shows names names no_names (λ n. x) y
+shows_same names x y is = record {
+  stands = λ before s. subst (Stands names) (sym (joined-none before)) s;
+  value = λ before whole s begins. is;
+}
+
+pub writes_same : {X : Type 0} (r : Redaction) (x y : X) → y ≡ x
+    → Writes r r no_names (λ n. x) y
+writes_same r x y is = record { same = refl; shows = shows_same r.names x y is }
+
+-- nothing is written yet
+pub writes_start : {X : Type 0} (r : Redaction) (xs : List X) → xs ≡ []
+    → Writes r r no_names (λ n. []) xs
+writes_start r xs is = writes_same r [] xs is
+
+-- something is made of it where it is as it should be
+pub writes_good : {X Y : Type 0} {old new : Redaction} {a : Names} {f : Names → X} {x : X}
+    (make : X → Y) (y : Y) (IsGood : X → Type 0) → ((n : Names) → IsGood (f n))
+    → (IsGood x → y ≡ make x) → Writes old new a f x → Writes old new a (λ n. make (f n)) y
+writes_good make y IsGood good is h = record {
+  same = h.same;
+  shows = record {
+    stands = h.shows.stands;
+    value = λ before whole stands begins.
+        let e = h.shows.value before whole stands begins in
+        is (subst IsGood (sym e) (good whole)) ∙ ap make e;
+  };
+}

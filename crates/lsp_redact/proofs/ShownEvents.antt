@@ -17,6 +17,7 @@ use Rattle.lsp_rpc.specs.Ident.{Ident}
 use Rattle.lsp_rpc.specs.Message as spoken
 use Rattle.lsp_rpc.specs.Message.{Message}
 use Rattle.lsp_rpc.specs.Outline.{without_params}
+use Rattle.lsp_rpc.specs.Params.{act_at}
 use Rattle.lsp_rpc.specs.Results.{picked_at}
 use Rattle.lsp_types.specs.declared.change.SyncKind.{SyncKind}
 use Rattle.lsp_types.specs.declared.change.SyncKind.TheVariants.{Full, Incremental, Nothing}
@@ -24,13 +25,14 @@ use Rattle.lsp_types.specs.declared.side.Side.{Side}
 use Rattle.lsp_session.specs.Negotiation.{is_synchronisation}
 use Rattle.lsp_session.specs.Sent.{Sent}
 use Rattle.lsp_verdict.specs.Event.{Event, fault, message, sent_in, snapshot}
+use Rattle.lsp_verdict.specs.Placed.{Raw, Reads, broken, content, show}
 use Rattle.lsp_redact.specs.Characters.{shown_as, shown_bytes}
 use Rattle.lsp_redact.specs.Kept as kept
 use Rattle.lsp_redact.specs.Kept.{Head, Kept, Reply, awaits, head_of, kept_of, picks_of, reply_of}
 use Rattle.lsp_redact.specs.Messages.{picked_data}
 use Rattle.lsp_redact.specs.Names.{Names, act_names, encoding_names, given_names, head_names, id_names}
-use Rattle.lsp_redact.specs.Names.{is_encoding, joined, names_in, names_of, number_of, offer_names}
-use Rattle.lsp_redact.specs.Names.{offered_names, reply_names}
+use Rattle.lsp_redact.specs.Names.{is_encoding, joined, meant_names, message_names, names_in, names_of}
+use Rattle.lsp_redact.specs.Names.{number_of, offer_names, offered_names, reply_names}
 use Rattle.lsp_redact.specs.Names.{shown_encoding, shown_id, shown_method, shown_uri, uri_names}
 use Rattle.lsp_redact.specs.Shown.{shown_act, shown_change, shown_head, shown_kept, shown_offer}
 use Rattle.lsp_redact.specs.Shown.{shown_picked, shown_reply}
@@ -157,6 +159,23 @@ among_middle own front back = record {
   encodings = in_middle front.encodings own.encodings back.encodings;
 }
 
+same_act : (own x : Act) → (let o : Option Act = Some own in o) ≡ Some x → own ≡ x
+same_act own x h = cc
+
+-- a message means what it says
+abbrev pub IsMeant : Event → Type 0
+IsMeant (message s) = act_at s.side s.message ≡ Some s.act
+IsMeant (fault side rule) = Unit {0}
+IsMeant (snapshot uri number text) = Unit {0}
+
+pub read_meant : (raw : Raw) (e : Event) → Reads raw e → IsMeant e
+read_meant raw (fault side rule) reads = tt
+read_meant raw (snapshot uri number text) reads = tt
+read_meant (content side bytes) (message s) reads =
+    subst (λ (by : Side). act_at by s.message ≡ Some s.act) (sym reads.by) reads.means
+read_meant (broken side rule) (message s) reads = absurd (cc reads)
+read_meant (show number uri text) (message s) reads = absurd (cc reads)
+
 module _ (names : Names) (apart : Option ℕ) where
   -- ---- names that are among those of the log
 
@@ -240,6 +259,18 @@ module _ (names : Names) (apart : Option ℕ) where
       )
 
   -- ---- what a message means
+
+  -- its names are among them
+  pub meant_among : (side : Side) (awaited : Bool) (m : Message) (x : Act) → act_at side m ≡ Some x
+      → AreAmong names (meant_names (head_of awaited m) x) → AreAmong names (act_names x)
+  meant_among side true (spoken.request id method params) x means h = h
+  meant_among side false (spoken.request id method params) x means h = h
+  meant_among side true (spoken.notification method params) x means h = h
+  meant_among side false (spoken.notification method params) x means h = h
+  meant_among side true (spoken.response id reply) x means h =
+      subst (λ (y : Act). AreAmong names (act_names y)) (same_act other x means) h
+  meant_among side false (spoken.response id reply) x means h =
+      subst (λ (y : Act). AreAmong names (act_names y)) (same_act other x means) h
 
   offered_shown : (offered : Option (List Text)) → AreAmong names (offered_names offered)
       → option_map (map (shown_encoding names)) offered ≡ option_map (map (encoding_by names)) offered
@@ -343,36 +374,40 @@ module _ (names : Names) (apart : Option ℕ) where
         ap (λ (i : Option Ident). spoken.response i (spoken.error code)) (given_shown id parts.0)
 
     like_message : (before : List Sent) (awaited : Bool) (s : Sent)
-        → AreAmong names (joined (head_names (head_of awaited s.message)) (act_names s.act))
+        → act_at s.side s.message ≡ Some s.act
+        → AreAmong names (message_names (head_of awaited s.message) s.act)
         → IsLikeSent before (record {
           side = s.side;
           message = message_from (shown_head names (head_of awaited s.message))
               (shown_act names apart s.act);
           act = shown_act names apart s.act;
         }) (sent_shown (sent_left awaited s))
-    like_message before awaited s h =
-        let parts = joined_among (head_names (head_of awaited s.message)) (act_names s.act) h in
+    like_message before awaited s means h =
+        let parts = joined_among (head_names (head_of awaited s.message))
+        (meant_names (head_of awaited s.message) s.act) h in
+        let meant_parts : AreAmong names (act_names s.act) =
+        meant_among s.side awaited s.message s.act means parts.1 in
         let head : Head = shown_head names (head_of awaited s.message) in
         subst (λ (y : Act). IsLikeSent before
         (record { side = s.side; message = message_from head y; act = y })
-        (sent_shown (sent_left awaited s))) (sym (act_shown s.act parts.1))
+        (sent_shown (sent_left awaited s))) (sym (act_shown s.act meant_parts))
         (like_params before s.side (meant s.act) (message_from head (meant s.act))
         (sent_shown (sent_left awaited s)).message
         (message_shown awaited s.message s.side (meant s.act) s.act parts.0))
 
     -- **what is read of an event of which this is kept is like the event, shown**
-    pub like_shown : (before past : List Event) (e : Event) (k : Kept) → kept_of before e ≡ Some k
-        → AreAmong names (names_of k)
+    pub like_shown : (before past : List Event) (e : Event) (k : Kept) → IsMeant e
+        → kept_of before e ≡ Some k → AreAmong names (names_of k)
         → IsLike past (read_event (shown_kept names apart k)) (event_to (event_left before e))
-    like_shown before past (message s) k is h =
+    like_shown before past (message s) k means is h =
         let own : Kept = kept.message s.side (head_of (awaits before) s.message) s.act in
         let same : own ≡ k = same_kept own k is in
         subst (λ (x : Kept). IsLike past (read_event (shown_kept names apart x))
         (event_to (event_left before (message s)))) same
-        (like_message (sent_in past) (awaits before) s
+        (like_message (sent_in past) (awaits before) s means
         (subst (λ (x : Kept). AreAmong names (names_of x)) (sym same) h))
-    like_shown before past (fault side rule) k is h = absurd cc
-    like_shown before past (snapshot uri number text) k is h =
+    like_shown before past (fault side rule) k means is h = absurd cc
+    like_shown before past (snapshot uri number text) k means is h =
         let own : Kept = kept.snapshot uri number text in
         let same : own ≡ k = same_kept own k is in
         let among : AreAmong names (uri_names uri) =

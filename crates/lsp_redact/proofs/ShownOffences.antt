@@ -24,13 +24,13 @@ use Rattle.lsp_redact.proofs.RenamedEvents.{no_at-by, offence-by}
 use Rattle.lsp_redact.proofs.RenamedOffences.{offence_still, said_still}
 use Rattle.lsp_redact.proofs.RenamedRules.{is_text}
 use Rattle.lsp_redact.proofs.ShownCharacters.{keeps_texts}
-use Rattle.lsp_redact.proofs.ShownEvents.{AreAmong, AreFew, event_to, ids, keeps_methods, keeps_picks}
+use Rattle.lsp_redact.proofs.ShownEvents.{AreAmong, AreFew, IsMeant, event_to, ids, keeps_methods, keeps_picks}
 use Rattle.lsp_redact.proofs.ShownEvents.{keeps_uris, like_shown, maps_texts, read_event, uri_by, value_by}
-use Rattle.lsp_redact.proofs.ShownSessions.{AllAmong, NoFaults, read_all, shown_result}
+use Rattle.lsp_redact.proofs.ShownSessions.{AllAmong, AreSound, read_all, shown_result}
 
 -- a fault is the same, at the same place
 pub fault_shown : (names : Names) (few : AreFew names) (apart : Option ℕ) (terms : Terms)
-    (es : List Event) (side : Side) (rule : ℕ) → NoFaults es → AllAmong names few apart (kept_in es)
+    (es : List Event) (side : Side) (rule : ℕ) → AreSound es → AllAmong names few apart (kept_in es)
     → no_at terms (read_all names few apart (kept_in es)) (fault side rule)
     ≡ no_at terms es (fault side rule)
 fault_shown names few apart terms es side rule sound among =
@@ -111,15 +111,15 @@ module _ (names : Names) (few : AreFew names) (apart : Option ℕ) (terms : Term
           ∙ sym left_offends
 
   -- **the verdict at the event that offends is the same**
-  pub no_shown : (k : Kept) → NoFaults es → AllAmong names few apart (kept_in es)
-      → kept_of es e ≡ Some k → AreAmong names (names_of k)
+  pub no_shown : (k : Kept) → AreSound es → AllAmong names few apart (kept_in es)
+      → IsMeant e → kept_of es e ≡ Some k → AreAmong names (names_of k)
       → no_at terms (read_all names few apart (kept_in es))
       (read_event names apart (shown_kept names apart k)) ≡ no_at terms es e
-  no_shown k sound among is own =
+  no_shown k sound among means is own =
       no_same (read_all names few apart (kept_in es)) renamed
       (shown_result names few apart terms es among sound) terms
       (read_event names apart (shown_kept names apart k)) (event_to names apart few last)
-      (like_shown names apart few es renamed e k is own)
+      (like_shown names apart few es renamed e k means is own)
       ∙ no_at-by (uri_by names) (id_by names) (shown_method names) (encoding_by names)
       (shown_bytes apart) (shown_as apart) (value_by names) (keeps_uris names few)
       (ids names apart few) (keeps_methods names) (keeps_encodings names few.encodings)

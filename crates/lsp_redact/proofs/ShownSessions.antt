@@ -2,11 +2,12 @@
 -- result, up to names.
 use Rattle.std.proofs.Common.{◌≡◌, ℕ, List, [], ◌∷◌, ◌++◌, map, Option, Some, None, refl, sym, ap, subst}
 use Rattle.std.proofs.Common.{◌∙◌}
-use Rattle.std.specs.List.{AllByRecursion}
+use Rattle.std.specs.List.{AllByRecursion, AllZip}
 use Rattle.std.specs.Option.{option_or}
 use Rattle.lsp_docs.specs.Documents.{Terms}
 use Rattle.lsp_verdict.specs.Event.{Event, fault, message, snapshot}
 use Rattle.lsp_verdict.specs.LookBack.{each_from, first_from}
+use Rattle.lsp_verdict.specs.Placed.{Raw, Reads}
 use Rattle.lsp_verdict.specs.Verdict.{Summary, Verdict, first_no, no_at, summary}
 use Rattle.lsp_redact.specs.Characters.{shown_as, shown_bytes}
 use Rattle.lsp_redact.specs.Kept.{Kept, kept_in, kept_of}
@@ -17,32 +18,36 @@ use Rattle.lsp_redact.proofs.LikeEvents.{none_heard, same_like, summary-same}
 use Rattle.lsp_redact.proofs.NamesApart.{encoding_by, id_by, keeps_encodings}
 use Rattle.lsp_redact.proofs.RenamedEvents.{clean-by, summary-by, summary_by}
 use Rattle.lsp_redact.proofs.ShownCharacters.{keeps_texts}
-use Rattle.lsp_redact.proofs.ShownEvents.{AreAmong, AreFew, event_to, ids, keeps_methods, keeps_picks}
-use Rattle.lsp_redact.proofs.ShownEvents.{keeps_uris, like_shown, maps_texts, names_among, read_event}
-use Rattle.lsp_redact.proofs.ShownEvents.{uri_by, value_by}
+use Rattle.lsp_redact.proofs.ShownEvents.{AreAmong, AreFew, IsMeant, event_to, ids, keeps_methods}
+use Rattle.lsp_redact.proofs.ShownEvents.{keeps_picks, keeps_uris, like_shown, maps_texts, names_among}
+use Rattle.lsp_redact.proofs.ShownEvents.{read_event, read_meant, uri_by, value_by}
 use Rattle.lsp_redact.proofs.Showing.{joined-none}
 
 -- ---- events without a fault
 
-abbrev pub NoFaults : List Event → Type 0
-NoFaults [] = Unit {0}
-NoFaults (message s ∷ later) = NoFaults later
-NoFaults (fault side rule ∷ later) = ⊥
-NoFaults (snapshot uri number text ∷ later) = NoFaults later
+-- none is a fault, and each message means what it says
+abbrev pub AreSound : List Event → Type 0
+AreSound [] = Unit {0}
+AreSound (message s ∷ later) = IsMeant (message s) × AreSound later
+AreSound (fault side rule ∷ later) = ⊥
+AreSound (snapshot uri number text ∷ later) = AreSound later
 
 rest_none : (a b : Option Verdict) → option_or a b ≡ None → b ≡ None
 rest_none None b h = h
 rest_none (Some v) b h = absurd cc
 
--- none that offends is one
-pub no_faults : (terms : Terms) (before es : List Event) → first_from (no_at terms) before es ≡ None
-    → NoFaults es
-no_faults terms before [] h = tt
-no_faults terms before (message s ∷ es) h =
-    no_faults terms (before ++ message s ∷ []) es (rest_none _ _ h)
-no_faults terms before (fault side rule ∷ es) h = absurd (cc h)
-no_faults terms before (snapshot uri number text ∷ es) h =
-    no_faults terms (before ++ snapshot uri number text ∷ []) es (rest_none _ _ h)
+-- where none offends
+pub sound_events : (terms : Terms) (before : List Event) (raws : List Raw) (es : List Event)
+    → AllZip Reads raws es → first_from (no_at terms) before es ≡ None → AreSound es
+sound_events terms before raws [] reads h = tt
+sound_events terms before [] (e ∷ es) reads h = absurd reads
+sound_events terms before (raw ∷ raws) (message s ∷ es) reads h = (
+  read_meant raw (message s) reads.0,
+  sound_events terms (before ++ message s ∷ []) raws es reads.1 (rest_none _ _ h),
+)
+sound_events terms before (raw ∷ raws) (fault side rule ∷ es) reads h = absurd (cc h)
+sound_events terms before (raw ∷ raws) (snapshot uri number text ∷ es) reads h =
+    sound_events terms (before ++ snapshot uri number text ∷ []) raws es reads.1 (rest_none _ _ h)
 
 module _ (names : Names) (few : AreFew names) (apart : Option ℕ) where
   abbrev pub AllAmong : List Kept → Type 0
@@ -55,16 +60,16 @@ module _ (names : Names) (few : AreFew names) (apart : Option ℕ) where
   abbrev renamed : List Event → List Event
   renamed es = map (event_to names apart few) es
 
-  all_like : (before past es : List Event) → NoFaults es → AllAmong (each_from kept_of before es)
+  all_like : (before past es : List Event) → AreSound es → AllAmong (each_from kept_of before es)
       → AreLike past (read_all (each_from kept_of before es)) (renamed (left_from before es))
   all_like before past [] sound among = tt
   all_like before past (message s ∷ es) sound among = (
-    like_shown names apart few before past (message s) _ refl among.0,
-    all_like (before ++ message s ∷ []) _ es sound among.1,
+    like_shown names apart few before past (message s) _ sound.0 refl among.0,
+    all_like (before ++ message s ∷ []) _ es sound.1 among.1,
   )
   all_like before past (fault side rule ∷ es) sound among = absurd sound
   all_like before past (snapshot uri number text ∷ es) sound among = (
-    like_shown names apart few before past (snapshot uri number text) _ refl among.0,
+    like_shown names apart few before past (snapshot uri number text) _ tt refl among.0,
     all_like (before ++ snapshot uri number text ∷ []) _ es sound among.1,
   )
 
@@ -78,15 +83,15 @@ module _ (names : Names) (few : AreFew names) (apart : Option ℕ) where
     left_result : HaveSameResult by_names es
     left_result = same_like [] [] by_names es none_heard (like_events [] es)
 
-    pub shown_result : NoFaults es → HaveSameResult us (renamed by_names)
+    pub shown_result : AreSound es → HaveSameResult us (renamed by_names)
     shown_result sound =
         same_like [] [] us (renamed by_names) none_heard (all_like [] [] es sound among)
 
     -- **none offends**
-    pub clean_shown : first_no terms es ≡ None → first_no terms us ≡ None
-    clean_shown clean =
+    pub clean_shown : AreSound es → first_no terms es ≡ None → first_no terms us ≡ None
+    clean_shown sound clean =
         first_like terms [] [] us (renamed by_names) none_heard
-        (all_like [] [] es (no_faults terms [] es clean) among)
+        (all_like [] [] es sound among)
         ∙ clean-by (uri_by names) (id_by names) (shown_method names) (encoding_by names)
         (shown_bytes apart) (shown_as apart) (value_by names) (keeps_uris names few)
         (ids names apart few) (keeps_methods names) (keeps_encodings names few.encodings)
@@ -101,9 +106,9 @@ module _ (names : Names) (few : AreFew names) (apart : Option ℕ) where
         (keeps_texts apart) (maps_texts apart) (keeps_picks names) s
 
     -- **and the result is the same, up to names**
-    pub summary_shown : first_no terms es ≡ None → summary terms us ≡ summary_to (summary terms es)
-    summary_shown clean =
-        summary-same us (renamed by_names) (shown_result (no_faults terms [] es clean)) terms
+    pub summary_shown : AreSound es → summary terms us ≡ summary_to (summary terms es)
+    summary_shown sound =
+        summary-same us (renamed by_names) (shown_result sound) terms
         ∙ summary-by (uri_by names) (id_by names) (shown_method names) (encoding_by names)
         (shown_bytes apart) (shown_as apart) (value_by names) (keeps_uris names few)
         (ids names apart few) (keeps_methods names) (keeps_encodings names few.encodings)

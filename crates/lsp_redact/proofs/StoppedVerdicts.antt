@@ -37,12 +37,12 @@ use Rattle.lsp_redact.specs.Redacting.{IsLogTo, SaysOf, apart_at, log_by, log_of
 use Rattle.lsp_redact.specs.Shown.{shown_kept}
 use Rattle.lsp_redact.proofs.BrokenContents.{replaced_refused}
 use Rattle.lsp_redact.proofs.DueEvents.{all_records_are, reads_shown}
-use Rattle.lsp_redact.proofs.NamesFew.{all_plain, event_plain, few_in, plain_on}
+use Rattle.lsp_redact.proofs.NamesFew.{few_in}
 use Rattle.lsp_redact.proofs.ReadSessions.{all_read, dues_of, read_on}
 use Rattle.lsp_redact.proofs.RedactedLogs.{fault_redacted, no_redacted}
 use Rattle.lsp_redact.proofs.RedactedVerdicts.{all_clean, read_notes, told_verdict}
 use Rattle.lsp_redact.proofs.ShownEvents.{AreAmong, AreFew}
-use Rattle.lsp_redact.proofs.ShownSessions.{NoFaults, no_faults, own_among}
+use Rattle.lsp_redact.proofs.ShownSessions.{AreSound, own_among, sound_events}
 use Rattle.lsp_redact.proofs.WrittenLogs.{Due, all_records, due_records, speaks}
 use Rattle.lsp_redact.proofs.WrittenVerdicts.{same_format}
 
@@ -87,8 +87,8 @@ module _ (limits : Bounds) (sizes : IsInRange limits) (out : List ℕ) (format :
   abbrev terms : Terms
   terms = terms_of limits format
 
-  sound : NoFaults es
-  sound = no_faults terms [] es clean
+  sound : AreSound es
+  sound = sound_events terms [] raws es reads clean
 
   -- what is written of these, by these names
   abbrev text_of : Names → Option ℕ → List Kept → List ℕ
@@ -149,7 +149,6 @@ module _ (limits : Bounds) (sizes : IsInRange limits) (out : List ℕ) (format :
       few_in names apart limits sizes most full ks
       (read_on names apart (kept_in es) k (all_read names apart [] raws es reads sound)
       (reads_shown names apart es e raw k is read))
-      (plain_on (kept_in es) k (all_plain [] raws es reads sound) (event_plain es e raw k is read))
       (text_short names apart ks []
       (whole ∙ ap (λ (t : List ℕ). first_line format ++ t) (sym (append-nil (text_of names apart ks)))))
       in
@@ -179,7 +178,7 @@ module _ (limits : Bounds) (sizes : IsInRange limits) (out : List ℕ) (format :
       ∙ sym (flat_map-append (due_records most) ds (speaks side text ∷ []))) in
       let few : AreFew names =
       few_in names apart limits sizes most full (kept_in es)
-      (all_read names apart [] raws es reads sound) (all_plain [] raws es reads sound)
+      (all_read names apart [] raws es reads sound)
       (text_short names apart (kept_in es) (flat_map spelling own) whole) in
       fault_redacted limits sizes names few apart out format most full chunks short room raws es reads
       sane (own_among (kept_in es)) clean side rule text v refused utf8 breaks

@@ -24,12 +24,13 @@ use Rattle.lsp_verdict.specs.LookBack.{each_from}
 use Rattle.lsp_verdict.specs.Verdict.{Document, Summary, document_of, open_of, summary}
 use Rattle.lsp_redact.specs.Kept.{Kept, awaits, head_of, kept_in, kept_of}
 use Rattle.lsp_redact.specs.Laws.{shown_document, shown_entry, shown_request, shown_summary}
-use Rattle.lsp_redact.specs.Names.{Names, act_names, given_names, head_names, id_names, method_names, names_of}
-use Rattle.lsp_redact.specs.Names.{shown_id, shown_method, shown_uri}
+use Rattle.lsp_redact.specs.Names.{Names, act_names, given_names, head_names, id_names, meant_names}
+use Rattle.lsp_redact.specs.Names.{method_names, names_of, shown_id, shown_method, shown_uri}
 use Rattle.lsp_redact.proofs.NamesApart.{id_by}
 use Rattle.lsp_redact.proofs.Numbering.{is_among}
-use Rattle.lsp_redact.proofs.ShownEvents.{AreAmong, AreFew, id_shown, joined_among, uri_by, uri_shown}
-use Rattle.lsp_redact.proofs.ShownSessions.{AllAmong, NoFaults, summary_to}
+use Rattle.lsp_redact.proofs.ShownEvents.{AreAmong, AreFew, id_shown, joined_among, meant_among}
+use Rattle.lsp_redact.proofs.ShownEvents.{uri_by, uri_shown}
+use Rattle.lsp_redact.proofs.ShownSessions.{AllAmong, AreSound, summary_to}
 
 module _ (names : Names) (few : AreFew names) (apart : Option ℕ) where
   -- ---- calls
@@ -44,32 +45,33 @@ module _ (names : Names) (few : AreFew names) (apart : Option ℕ) where
   abbrev AreCallsAmong : List Call → Type 0
   AreCallsAmong cs = AllByRecursion IsCallAmong cs
 
-  meant_among : (enc : Encoding) (kind : SyncKind) (x : Act) (cs : List Call)
+  said_among : (enc : Encoding) (kind : SyncKind) (x : Act) (cs : List Call)
       → AreAmong names (act_names x) → AreCallsAmong cs
       → AreCallsAmong (cons_option (call_of enc kind x) cs)
-  meant_among enc kind (did_open uri number text) cs h rest = (h.uris.0, rest)
-  meant_among enc kind (did_change uri number edits) cs h rest = (tt, rest)
-  meant_among enc kind (did_close uri) cs h rest = (tt, rest)
-  meant_among enc kind (did_save uri text) cs h rest = (tt, rest)
-  meant_among enc kind (initialize offer) cs h rest = rest
-  meant_among enc kind initialized cs h rest = rest
-  meant_among enc kind shutdown cs h rest = rest
-  meant_among enc kind exit cs h rest = rest
-  meant_among enc kind (cancel id) cs h rest = rest
-  meant_among enc kind (progress token) cs h rest = rest
-  meant_among enc kind early cs h rest = rest
-  meant_among enc kind (register methods) cs h rest = rest
-  meant_among enc kind other cs h rest = rest
+  said_among enc kind (did_open uri number text) cs h rest = (h.uris.0, rest)
+  said_among enc kind (did_change uri number edits) cs h rest = (tt, rest)
+  said_among enc kind (did_close uri) cs h rest = (tt, rest)
+  said_among enc kind (did_save uri text) cs h rest = (tt, rest)
+  said_among enc kind (initialize offer) cs h rest = rest
+  said_among enc kind initialized cs h rest = rest
+  said_among enc kind shutdown cs h rest = rest
+  said_among enc kind exit cs h rest = rest
+  said_among enc kind (cancel id) cs h rest = rest
+  said_among enc kind (progress token) cs h rest = rest
+  said_among enc kind early cs h rest = rest
+  said_among enc kind (register methods) cs h rest = rest
+  said_among enc kind other cs h rest = rest
 
-  calls_among : (before es : List Event) → NoFaults es
+  calls_among : (before es : List Event) → AreSound es
       → AllAmong names few apart (each_from kept_of before es)
       → AreCallsAmong (each_from call_at before es)
   calls_among before [] sound among = tt
   calls_among before (message s ∷ es) sound among =
-      meant_among _ _ s.act _
-      (joined_among names apart (head_names (head_of (awaits before) s.message)) (act_names s.act)
-      among.0).1
-      (calls_among (before ++ message s ∷ []) es sound among.1)
+      said_among _ _ s.act _
+      (meant_among names apart s.side (awaits before) s.message s.act sound.0
+      (joined_among names apart (head_names (head_of (awaits before) s.message))
+      (meant_names (head_of (awaits before) s.message) s.act) among.0).1)
+      (calls_among (before ++ message s ∷ []) es sound.1 among.1)
   calls_among before (fault side rule ∷ es) sound among = absurd sound
   calls_among before (snapshot uri number text ∷ es) sound among =
       (tt, calls_among (before ++ snapshot uri number text ∷ []) es sound among.1)
@@ -134,14 +136,14 @@ module _ (names : Names) (few : AreFew names) (apart : Option ℕ) where
   abbrev AreAskedAmong : List Sent → Type 0
   AreAskedAmong sent = AllByRecursion (λ (s : Sent). IsAskedAmong s.message) sent
 
-  sent_among : (before es : List Event) → NoFaults es
+  sent_among : (before es : List Event) → AreSound es
       → AllAmong names few apart (each_from kept_of before es) → AreAskedAmong (sent_in es)
   sent_among before [] sound among = tt
   sent_among before (message s ∷ es) sound among = (
     head_among (awaits before) s.message
-        (joined_among names apart (head_names (head_of (awaits before) s.message)) (act_names s.act)
-        among.0).0,
-    sent_among (before ++ message s ∷ []) es sound among.1,
+        (joined_among names apart (head_names (head_of (awaits before) s.message))
+        (meant_names (head_of (awaits before) s.message) s.act) among.0).0,
+    sent_among (before ++ message s ∷ []) es sound.1 among.1,
   )
   sent_among before (fault side rule ∷ es) sound among = absurd sound
   sent_among before (snapshot uri number text ∷ es) sound among =
@@ -217,7 +219,7 @@ module _ (names : Names) (few : AreFew names) (apart : Option ℕ) where
       ∙ sym (paired_to side (open_requests side (sent_in es)))
 
   -- **the result with its names as numbers is that with its names replaced**
-  pub summary_named : (terms : Terms) (es : List Event) → NoFaults es
+  pub summary_named : (terms : Terms) (es : List Event) → AreSound es
       → (among : AllAmong names few apart (kept_in es))
       → summary_to names few apart terms es among (summary terms es)
       ≡ shown_summary names (summary terms es)

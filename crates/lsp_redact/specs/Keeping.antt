@@ -1,5 +1,5 @@
 -- For which events the account of the run stands.
-use Rattle.std.specs.Prelude.{◌≡◌, ◌<◌, List, map, None}
+use Rattle.std.specs.Prelude.{◌≡◌, List, map, None}
 use Rattle.lsp_docs.specs.Documents.{Terms}
 use Rattle.lsp_verdict.specs.Heard.{Heard, heard_events}
 use Rattle.lsp_verdict.specs.Verdict.{first_no}
@@ -12,4 +12,3 @@ pub record Keeps (account : Redacting) (terms : Terms) (heard : List Heard) : Ty
   pub clean : first_no terms (heard_events heard) ≡ None
   pub kept_is : map kept_view account.kept.items ≡ kept_in (heard_events heard)
   pub awaits_is : account.awaits ≡ awaits (heard_events heard)
-  pub some : 0 < account.most

@@ -37,6 +37,11 @@ abbrev pub member_if : List ℕ → Option Data → Members → Members
 member_if name None members = members
 member_if name (Some value) members = member name value members
 
+-- a member that may be left out, put into others
+abbrev pub put_if : List ℕ → Option Data → Members → Members
+put_if name None members = members
+put_if name (Some value) members = put name value members
+
 -- an id as a value
 abbrev pub id_data : Ident → Data
 id_data (ident.number z) = integer z
@@ -52,26 +57,41 @@ kind_number Nothing = 0
 kind_number Full = 1
 kind_number Incremental = 2
 
+-- the capabilities with these encodings as a value
+abbrev pub offered_of : Option Data → Data
+offered_of None = object no_members
+offered_of (Some names) = one (codes "general") (one (codes "positionEncodings") names)
+
 abbrev pub offered_data : Option (List Text) → Data
-offered_data None = object no_members
-offered_data (Some offered) =
-    one (codes "general") (one (codes "positionEncodings") (list (map text_data offered)))
+offered_data offered = offered_of (option_map (λ names. list (map text_data names)) offered)
+
+-- the params with these capabilities and this token as values
+abbrev pub offer_of : Data → Option Data → Data
+offer_of capabilities token = object
+    (member (codes "capabilities") capabilities
+    (member_if (codes "workDoneToken") token no_members))
 
 abbrev pub offer_data : Offer → Data
-offer_data offer = object
-    (member (codes "capabilities") (offered_data offer.encodings)
-    (member_if (codes "workDoneToken") (option_map id_data offer.token) no_members))
+offer_data offer = offer_of (offered_data offer.encodings) (option_map id_data offer.token)
+
+-- the result with this encoding and the number of a kind
+abbrev pub picked_of : Text → ℕ → Data
+picked_of encoding kind = one (codes "capabilities") (object
+    (member (codes "positionEncoding") (text_data encoding)
+    (member (codes "textDocumentSync") (natural kind) no_members)))
 
 abbrev pub picked_data : Picked → Data
-picked_data picked = one (codes "capabilities") (object
-    (member (codes "positionEncoding") (text_data picked.encoding)
-    (member (codes "textDocumentSync") (natural (kind_number picked.kind)) no_members)))
+picked_data picked = picked_of picked.encoding (kind_number picked.kind)
 
 abbrev pub registration_data : Text → Data
 registration_data method = one (codes "method") (text_data method)
 
+-- the params with these registrations as a value
+abbrev pub registered_of : Data → Data
+registered_of registrations = one (codes "registrations") registrations
+
 abbrev pub registered_data : List Text → Data
-registered_data methods = one (codes "registrations") (list (map registration_data methods))
+registered_data methods = registered_of (list (map registration_data methods))
 
 -- ---- documents
 
@@ -95,12 +115,16 @@ opened_data uri version text = one (codes "textDocument") (object
     (member (codes "uri") (text_data uri)
     (member (codes "version") (integer version) no_members))))
 
-abbrev pub changed_data : Text → ℤ → List Change → Data
-changed_data uri version changes = object
-    (member (codes "contentChanges") (list (map change_data changes))
+-- with these changes as a value
+abbrev pub changed_of : Text → ℤ → Data → Data
+changed_of uri version changes = object
+    (member (codes "contentChanges") changes
     (member (codes "textDocument") (object
     (member (codes "uri") (text_data uri)
     (member (codes "version") (integer version) no_members))) no_members))
+
+abbrev pub changed_data : Text → ℤ → List Change → Data
+changed_data uri version changes = changed_of uri version (list (map change_data changes))
 
 abbrev pub closed_data : Text → Data
 closed_data uri = one (codes "textDocument") (one (codes "uri") (text_data uri))
@@ -135,12 +159,15 @@ abbrev pub version_member : Members
 version_member = member (codes "jsonrpc") version_data no_members
 
 -- the members of a call of this method with these params, and with this id if it is a request
-abbrev pub called_members : Option Ident → Text → Option Data → Members
-called_members id method params =
-    member_if (codes "id") (option_map id_data id)
+abbrev pub call_members : Option Data → Text → Option Data → Members
+call_members id method params =
+    member_if (codes "id") id
     (member (codes "jsonrpc") version_data
     (member (codes "method") (text_data method)
     (member_if (codes "params") params no_members)))
+
+abbrev pub called_members : Option Ident → Text → Option Data → Members
+called_members id method params = call_members (option_map id_data id) method params
 
 abbrev pub answered_data : Option Ident → Data
 answered_data None = null
@@ -151,16 +178,23 @@ error_data code = object (member (codes "code") (integer code)
     (member (codes "message") (string []) no_members))
 
 -- the member that says what is answered: its name and its value
-abbrev pub reply_member : Reply → Text × Data
-reply_member (picks picked) = (codes "result", picked_data picked)
-reply_member nothing = (codes "result", null)
-reply_member (failed code) = (codes "error", error_data code)
+abbrev pub reply_name : Reply → Text
+reply_name (picks picked) = codes "result"
+reply_name nothing = codes "result"
+reply_name (failed code) = codes "error"
 
--- the members of a response to this id
+abbrev pub reply_data : Reply → Data
+reply_data (picks picked) = picked_data picked
+reply_data nothing = null
+reply_data (failed code) = error_data code
+
+-- the members of a response with this id
+abbrev pub answer_members : Data → Text → Data → Members
+answer_members id name value = put name value (member (codes "id") id version_member)
+
 abbrev pub response_members : Option Ident → Reply → Members
 response_members id reply =
-    put (reply_member reply).0 (reply_member reply).1
-    (member (codes "id") (answered_data id) version_member)
+    answer_members (answered_data id) (reply_name reply) (reply_data reply)
 
 -- the members of a message that means this
 abbrev pub members_of : Head → Act → Members

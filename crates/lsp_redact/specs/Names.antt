@@ -26,10 +26,14 @@ number_of names name = prefix_len (λ other. not (bytes_eq name other)) (distinc
 -- ---- names that the rules know
 
 -- the methods whose messages mean something to a session
+abbrev pub editor_methods : List Text
+editor_methods = map (λ (row : Row). row.method) (editor_requests ++ editor_notifications)
+
+abbrev pub server_methods : List Text
+server_methods = map (λ (row : Row). row.method) (server_requests ++ server_notifications)
+
 abbrev pub known_methods : List Text
-known_methods =
-    map (λ (row : Row). row.method)
-    (editor_requests ++ editor_notifications ++ server_requests ++ server_notifications)
+known_methods = editor_methods ++ server_methods
 
 abbrev pub is_known : Text → Bool
 is_known method = list_any (bytes_eq method) known_methods
@@ -110,8 +114,17 @@ head_names (request id method) = call_names (Some id) method
 head_names (notification method) = call_names None method
 head_names (response id reply) = joined (given_names id) (reply_names reply)
 
+-- of what a message means; of a response nothing is read but its head
+abbrev pub meant_names : Head → Act → Names
+meant_names (request id method) act = act_names act
+meant_names (notification method) act = act_names act
+meant_names (response id reply) act = no_names
+
+abbrev pub message_names : Head → Act → Names
+message_names head act = joined (head_names head) (meant_names head act)
+
 abbrev pub names_of : Kept → Names
-names_of (message side head act) = joined (head_names head) (act_names act)
+names_of (message side head act) = message_names head act
 names_of (snapshot uri number text) = uri_names uri
 
 abbrev pub names_in : List Kept → Names

@@ -21,6 +21,7 @@ mod records;
 mod redacting;
 mod redaction;
 mod run;
+mod values;
 
 pub use laws::{
     differences_stay, document_rules_stay, edits_stay, held_texts_stay, kinds_decide, one_redacted,

@@ -1,17 +1,22 @@
 //! Names as numbers.
-ghost use Rattle.std.specs.Prelude.{◌≡◌, ◌++◌, ◌∷◌, [], List, IfOk, OnOk, string_bytes};
+ghost use Rattle.std.specs.Prelude.{◌≡◌, ◌+◌, ◌++◌, ◌∷◌, [], List, IfOk, OnOk, decimal};
+ghost use Rattle.std.specs.Prelude.{string_bytes};
+ghost use Rattle.std.specs.List.{list_any};
+ghost use Rattle.std.specs.Str.{bytes_eq};
 ghost use Rattle.lsp_redact.specs.Names as spec;
-ghost use Rattle.lsp_redact.specs.Names.{Names as Named, distinct, encoding_names, id_names};
-ghost use Rattle.lsp_redact.specs.Names.{method_names, number_of, shown_encoding, shown_method};
-ghost use Rattle.lsp_redact.specs.Names.{shown_id, shown_uri, uri_names};
-ghost use Rattle.lsp_redact.specs.Names.{no_names};
+ghost use Rattle.lsp_redact.specs.Names.{distinct, editor_methods, encoding_names, id_names};
+ghost use Rattle.lsp_redact.specs.Names.{method_names, no_names, number_of, server_methods};
+ghost use Rattle.lsp_redact.specs.Names.{shown_encoding, shown_id, shown_method, shown_uri};
+ghost use Rattle.lsp_redact.specs.Names.{uri_names};
 ghost use Rattle.lsp_redact.specs.Naming.{Shows, Stands};
 ghost use Rattle.lsp_redact.specs.Messages.{id_data};
 ghost use Rattle.lsp_rpc.specs.Act.{Text};
+ghost use Rattle.lsp_rpc.specs.Ident as ident;
 ghost use Rattle.lsp_rpc.specs.Ident.{id_view};
 ghost use Rattle.serde_json.specs.View.{view};
 
-use lsp_rpc::{Id, Memory, Method, Result, Side, notification_method, request_method};
+use crate::values::text_value;
+use lsp_rpc::{Id, Memory, Result};
 use lsp_types::OrderedMap;
 use serde_json::Value;
 use std::alloc::Global;
@@ -55,21 +60,69 @@ impl Numbers {
         if let Some(number) = self.seen.get_str(name) {
             return Ok(*number);
         }
-        let number = (self.seen.len() as u64).checked_add(1).ok_or(Memory)?;
-        let name = String::from_str(self.seen.allocator(), name)?;
-        self.seen.push(name, number)?;
+        let number = next_number(self.seen.len())?;
+        let key = String::from_str(self.seen.allocator(), name)?;
+        self.seen.push(key, number)?;
         Ok(number)
     }
+}
+
+/// The number after this many.
+fn next_number(count: usize) -> Result<u64>
+    ensures { IfOk result (λ number. number ≡ count + 1) }
+{
+    (count as u64).checked_add(1).ok_or(Memory)
+}
+
+/// A number with this before it.
+fn numbered(alloc: Global, front: &str, number: u64) -> Result<String>
+    ensures { IfOk result (λ text. string_bytes text ≡ front.now ++ decimal number) }
+{
+    Ok(format!(in alloc; "{front}{number}")?)
+}
+
+/// Whether the rules name this method of the editor's.
+fn is_of_editor(method: &str) -> bool
+    ensures { result ≡ list_any (bytes_eq method.now) editor_methods }
+{
+    matches!(
+        method,
+        "initialize"
+            | "shutdown"
+            | "initialized"
+            | "exit"
+            | "textDocument/didOpen"
+            | "textDocument/didChange"
+            | "textDocument/didClose"
+            | "textDocument/didSave"
+            | "$/cancelRequest"
+    )
+}
+
+/// Whether the rules name this method of the server's.
+fn is_of_server(method: &str) -> bool
+    ensures { result ≡ list_any (bytes_eq method.now) server_methods }
+{
+    matches!(
+        method,
+        "window/showMessageRequest"
+            | "client/registerCapability"
+            | "$/cancelRequest"
+            | "$/progress"
+            | "window/showMessage"
+            | "window/logMessage"
+            | "telemetry/event"
+    )
 }
 
 /// Whether the rules name this method.
 fn is_known(method: &str) -> bool
     ensures { result ≡ spec.is_known method.now }
 {
-    !(request_method(Side::Editor, method) == Method::Other)
-        || !(notification_method(Side::Editor, method) == Method::Other)
-        || !(request_method(Side::Server, method) == Method::Other)
-        || !(notification_method(Side::Server, method) == Method::Other)
+    if is_of_editor(method) {
+        return true;
+    }
+    is_of_server(method)
 }
 
 /// Whether the rules name this encoding.
@@ -108,7 +161,18 @@ impl Names {
             (λ names. shown_uri names uri.now) (string_bytes shown)) }
     {
         let number = self.uris.of(uri)?;
-        Ok(format!(in self.alloc; "file:///{number}")?)
+        let shown = numbered(self.alloc, "file:///", number)?;
+        Ok(shown)
+    }
+
+    /// What the text of an id or a token is shown by.
+    fn id_text(&mut self, text: &str) -> Result<String>
+        ensures { IfOk result (λ shown. Shows self.old self.new (id_names (ident.text text.now))
+            (λ names. decimal (number_of names.ids text.now)) (string_bytes shown)) }
+    {
+        let number = self.ids.of(text)?;
+        let shown = numbered(self.alloc, "", number)?;
+        Ok(shown)
     }
 
     /// What an id or a token is shown by: a number as it is.
@@ -119,8 +183,8 @@ impl Names {
         match id {
             Id::Number(number) => Ok(Value::from(*number)),
             Id::Text(text) => {
-                let number = self.ids.of(text.as_str())?;
-                Ok(Value::String(format!(in self.alloc; "{number}")?))
+                let shown = self.id_text(text.as_str())?;
+                Ok(text_value(shown))
             }
         }
     }
@@ -131,10 +195,12 @@ impl Names {
             (λ names. shown_method names method.now) (string_bytes shown)) }
     {
         if is_known(method) {
-            return Ok(String::from_str(self.alloc, method)?);
+            let same = String::from_str(self.alloc, method)?;
+            return Ok(same);
         }
         let number = self.methods.of(method)?;
-        Ok(format!(in self.alloc; "method/{number}")?)
+        let shown = numbered(self.alloc, "method/", number)?;
+        Ok(shown)
     }
 
     /// What the name of an encoding is shown by: one that the rules name as it is.
@@ -143,9 +209,11 @@ impl Names {
             (λ names. shown_encoding names name.now) (string_bytes shown)) }
     {
         if is_encoding(name) {
-            return Ok(String::from_str(self.alloc, name)?);
+            let same = String::from_str(self.alloc, name)?;
+            return Ok(same);
         }
         let number = self.encodings.of(name)?;
-        Ok(format!(in self.alloc; "encoding-{number}")?)
+        let shown = numbered(self.alloc, "encoding-", number)?;
+        Ok(shown)
     }
 }

@@ -1,11 +1,14 @@
 //! Contents and snapshots as the records of a log.
-ghost use Rattle.std.specs.Prelude.{◌≡◌, ◌++◌, ◌<◌, OnOk, chars, drop, length, string_bytes, take};
+ghost use Rattle.std.specs.Prelude.{◌≡◌, ◌++◌, ◌<◌, IfOk, OnOk, chars, drop, length, map, max};
+ghost use Rattle.std.specs.Prelude.{string_bytes, take};
 ghost use Rattle.std.specs.List.{flat_map};
+ghost use Rattle.lsp_frame.specs.Sink.{canonical};
 ghost use Rattle.lsp_log.specs.Log.{chunk, first_line, letter, shown, spelling, with_feed};
-ghost use Rattle.lsp_redact.specs.Records.{content_records};
+ghost use Rattle.lsp_redact.specs.Records.{content_records, pieces};
 
 use lsp_frame::Format;
 use lsp_rpc::{Result, Side};
+use std::alloc::Global;
 
 /// The first line of a log of this format.
 fn first_line_of(format: Format) -> &'static str
@@ -32,15 +35,14 @@ fn push_line(text: &mut String, line: &str) -> Result<()>
     Ok(text.push_str("\n")?)
 }
 
-/// The first characters of a text, this many at most, and what comes after them.
+/// The first characters of a text, this many at most but one at least, and what comes after them.
 fn split_front(text: &str, most: usize) -> (&str, &str)
-    requires { 0 < most }
-    ensures front { chars result.0.now ≡ take most (chars text.now) }
-    ensures back { chars result.1.now ≡ drop most (chars text.now) }
+    ensures front { chars result.0.now ≡ take (max most 1) (chars text.now) }
+    ensures back { chars result.1.now ≡ drop (max most 1) (chars text.now) }
     ensures less { 0 < length text.now → length result.1.now < length text.now }
 {
     let mut rest = text.chars();
-    rest.nth(most - 1);
+    rest.nth(most.saturating_sub(1));
     text.split_at(text.len() - rest.as_str().len())
 }
 
@@ -65,21 +67,35 @@ fn push_piece(text: &mut String, side: Side, piece: &str) -> Result<()>
     push_line(text, piece)
 }
 
-/// Adds a content as its canonical frame (LSP 3.17, "Base Protocol"), in records of its side, each
-/// of which has this many characters but for the last.
-pub(crate) fn push_content(text: &mut String, side: Side, content: &str, most: usize) -> Result<()>
-    requires { 0 < most }
-    ensures { OnOk result (string_bytes text.new ≡ string_bytes text.old
-        ++ flat_map spelling (content_records most side content.now)) }
+/// The canonical frame of a content (LSP 3.17, "Base Protocol").
+fn frame_of(alloc: Global, content: &str) -> Result<String>
+    ensures { IfOk result (λ frame. string_bytes frame ≡ canonical content.now) }
 {
     let len = content.len();
-    let frame = format!(in *text.allocator(); "Content-Length: {len}\r\n\r\n{content}")?;
-    let mut rest = frame.as_str();
+    Ok(format!(in alloc; "Content-Length: {len}\r\n\r\n{content}")?)
+}
+
+/// Adds a text in records of a side, each of which has this many characters but for the last.
+fn push_pieces(text: &mut String, side: Side, whole: &str, most: usize) -> Result<()>
+    ensures { OnOk result (string_bytes text.new ≡ string_bytes text.old
+        ++ flat_map spelling (map (chunk side) (pieces (max most 1) whole.now))) }
+{
+    let mut rest = whole;
     while !rest.is_empty() {
         let (piece, others) = split_front(rest, most);
         push_piece(text, side, piece)?;
         rest = others;
     }
+    Ok(())
+}
+
+/// Adds a content as its canonical frame, in records of its side.
+pub(crate) fn push_content(text: &mut String, side: Side, content: &str, most: usize) -> Result<()>
+    ensures { OnOk result (string_bytes text.new ≡ string_bytes text.old
+        ++ flat_map spelling (content_records (max most 1) side content.now)) }
+{
+    let frame = frame_of(*text.allocator(), content)?;
+    push_pieces(text, side, frame.as_str(), most)?;
     Ok(())
 }
 

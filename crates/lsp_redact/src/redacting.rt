@@ -1,6 +1,6 @@
 //! What is kept of a log on the way, and what is written of it once its verdict is known.
 ghost use Rattle.std.specs.Prelude.{◌≡◌, ◌++◌, ◌∷◌, ◌+◌, ◌<◌, ◌^◌, [], ℕ, List, None, OnOk, Some};
-ghost use Rattle.std.specs.Prelude.{false, length, map, option_map, string_bytes};
+ghost use Rattle.std.specs.Prelude.{false, length, map, max, option_map, string_bytes};
 ghost use Rattle.std.specs.List.{flat_map};
 ghost use Rattle.lsp_docs.specs.Documents.{Terms};
 ghost use Rattle.lsp_log.specs.Log.{spelling};
@@ -44,12 +44,12 @@ pub(crate) struct Redacting {
     kept: Vec<Kept>,
     /// Whether an `initialize` is open.
     awaits: bool,
-    /// How many characters a record has at most.
+    /// How many characters a record has at most, if it has more than one.
     most: usize,
 }
 
 impl Redacting {
-    /// Nothing is kept yet; a record has at most this many characters.
+    /// Nothing is kept yet; a record has at most this many characters, or one.
     pub(crate) fn new(alloc: Global, most: usize) -> Self
         ensures kept { result.kept.items ≡ [] }
         ensures awaits { result.awaits ≡ false }
@@ -79,10 +79,9 @@ impl Redacting {
 
     /// Adds the log of what is kept.
     fn say(&self, text: &mut String, format: Format, redaction: &mut Redaction) -> Result<()>
-        requires { 0 < self.now.most }
         ensures { OnOk result (Writes redaction.old redaction.new
             (names_in (map kept_view self.now.kept.items))
-            (λ n. string_bytes text.old ++ log_by self.now.most format n redaction.old.apart
+            (λ n. string_bytes text.old ++ log_by (max self.now.most 1) format n redaction.old.apart
             (map kept_view self.now.kept.items)) (string_bytes text.new)) }
     {
         push_first_line(text, format)?;
@@ -100,12 +99,11 @@ impl Redacting {
         seen: &Seen<'_>,
         rule: u16,
     ) -> Result<()>
-        requires { 0 < self.now.most }
         ensures { OnOk result ((before : List Event) (event : Event)
             → self.now.awaits ≡ awaits before → Reads (raw_view seen.now.raw) event
             → MaySpeak before event (option_map (λ s. s.now) seen.now.spoken)
             → IsFaultOf rule event
-            → AddsLast self.now.most redaction.old redaction.new (raw_view seen.now.raw) rule
+            → AddsLast (max self.now.most 1) redaction.old redaction.new (raw_view seen.now.raw) rule
             (spec.kept_of before event) (string_bytes text.old) (string_bytes text.new)) }
     {
         let alloc = redaction.alloc;
@@ -122,10 +120,9 @@ impl Redacting {
 
 /// Adds what is kept of one event.
 fn push_kept(text: &mut String, redaction: &mut Redaction, kept: &Kept, most: usize) -> Result<()>
-    requires { 0 < most }
     ensures { OnOk result (Writes redaction.old redaction.new (names_of (kept_view kept.now))
         (λ n. string_bytes text.old
-        ++ flat_map spelling (records_of most
+        ++ flat_map spelling (records_of (max most 1)
         (shown_kept n redaction.old.apart (kept_view kept.now))))
         (string_bytes text.new)) }
 {
@@ -208,7 +205,7 @@ fn outcome_at(held: &Events<Lined>, log: &LogEvents, end: End) -> Outcome
 impl Account for Redacting {
     ghost Asked = { ℕ };
 
-    ghost asked = { λ account. account.most };
+    ghost asked = { λ account. max account.most 1 };
 
     ghost run = { redact_run };
 

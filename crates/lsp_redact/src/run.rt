@@ -31,7 +31,7 @@ pub fn run_redact<R: Source, W: Sink>(
     ensures redacts { Redacts limits (ports (R.told reader.old) (R.told reader.new)
         (W.told writer.old) (W.told writer.new)) result }
 {
-    let most = (limits.chunk() / MOST_BYTES).max(1) as usize;
+    let most = (limits.chunk() / MOST_BYTES) as usize;
     let mut account = Redacting::new(alloc, most);
     pass(alloc, reader, writer, limits, &mut account)
 }

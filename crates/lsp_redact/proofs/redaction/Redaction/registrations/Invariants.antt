@@ -4,7 +4,7 @@ use Rattle.serde_json.specs.View.{view}
 use Rattle.lsp_redact.specs.Messages.{registration_data}
 use Rattle.lsp_redact.specs.Names.{method_names, shown_method}
 use Rattle.lsp_redact.specs.Naming.{Writes}
-use Rattle.lsp_redact.proofs.redaction.Redaction.registered.Given as goal
+use Rattle.lsp_redact.proofs.redaction.Redaction.registrations.Given as goal
 
 abbrev pub invariant-loop-method : goal.invariant-loop-method
 invariant-loop-method l =

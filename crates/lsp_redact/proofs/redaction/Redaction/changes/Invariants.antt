@@ -3,7 +3,7 @@ use Rattle.lsp_rpc.specs.View.{changes_view}
 use Rattle.serde_json.specs.View.{view}
 use Rattle.lsp_redact.specs.Messages.{change_data}
 use Rattle.lsp_redact.specs.Shown.{shown_change}
-use Rattle.lsp_redact.proofs.redaction.Redaction.changed.Given as goal
+use Rattle.lsp_redact.proofs.redaction.Redaction.changes.Given as goal
 
 abbrev pub invariant-loop-change : goal.invariant-loop-change
 invariant-loop-change l = map view l.shown.items
