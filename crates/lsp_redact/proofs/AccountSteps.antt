@@ -56,7 +56,7 @@ use Rattle.lsp_redact.proofs.Showing.{joined-assoc, joined-none}
 
 -- ---- names of more events
 
-names_in-append : (ks ls : List Kept) → names_in (ks ++ ls) ≡ joined (names_in ks) (names_in ls)
+pub names_in-append : (ks ls : List Kept) → names_in (ks ++ ls) ≡ joined (names_in ks) (names_in ls)
 names_in-append [] ls = refl
 names_in-append (k ∷ ks) ls =
     ap (joined (names_of k)) (names_in-append ks ls)

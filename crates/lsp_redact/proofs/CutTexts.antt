@@ -1,15 +1,15 @@
 -- Texts that are cut between characters.
-use Rattle.std.proofs.Common.{◌≡◌, ℕ, ◌+◌, ◌-◌, ◌<◌, ◌≤◌, Bool, true, List, [], ◌∷◌, ◌++◌, length, take, drop}
+use Rattle.std.proofs.Common.{◌≡◌, ℕ, ◌+◌, ◌-◌, ◌<◌, ◌≤◌, Bool, true, false, List, [], ◌∷◌, ◌++◌, length, take, drop}
 use Rattle.std.proofs.Common.{refl, sym, ap, subst, ◌∙◌, Option, Some, None, append_assoc, append-nil, arith}
 use Rattle.std.proofs.Common.{inl, inr, IsUtf8, map, max, suc, zero}
-use Rattle.std.specs.Prelude.{MatchOption, chars, encode_utf8_all}
+use Rattle.std.specs.Prelude.{◌==◌, MatchOption, chars, encode_utf8_all}
 use Rattle.std.specs.Iterator.{SkipsThenYields, Yields}
 use Rattle.std.specs.List.{flat_map}
 use Rattle.std.specs.Str.{IsCharBoundary}
 use Rattle.std.specs.Str.Iter.{chars_rest, chars_steps}
 use Rattle.std.specs.declared.str.Chars.{Chars}
 use Rattle.std.proofs.Math.Seq.{drop-append_seam, take-append_seam}
-use Rattle.std.proofs.lemmas.Bool.{and_parts, cases_eq}
+use Rattle.std.proofs.lemmas.Bool.{and_parts, cases_eq, false≢true}
 use Rattle.std.proofs.lemmas.List.{drop_all, length-append, take_all}
 use Rattle.std.proofs.lemmas.Str.{IsCharBoundary-at_seam, IsUtf8-append, IsUtf8-encode, IsUtf8-nil}
 use Rattle.std.proofs.lemmas.Str.{IsUtf8-past_char, chars-append, chars-encodes, chars-nil}
@@ -233,3 +233,14 @@ pieces_on side most rest front back old new all full some utf8 first last is bef
     ∙ spelled_on side most rest front back old
     (pieces_some most rest front back full some utf8 first last)
     ∙ before
+
+-- a text that is not empty has a character
+pub some_character : (text : List ℕ) → IsUtf8 text → (b : Bool) → b ≡ (length text == 0)
+    → b ≡ false → 1 ≤ length (chars text)
+some_character text utf8 b is h = by_characters (chars text) (encodes-chars text utf8)
+  where
+    by_characters : (cs : List ℕ) → encode_utf8_all cs ≡ text → 1 ≤ length cs
+    by_characters [] e =
+        let empty : length text ≡ 0 = ap length (sym e) in
+        absurd (false≢true (sym h ∙ is ∙ ap (λ (n : ℕ). n == 0) empty))
+    by_characters (x ∷ cs) e = omega arith

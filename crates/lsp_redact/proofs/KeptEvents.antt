@@ -1,7 +1,7 @@
 -- What is kept of an event is what the rules read of it.
 use Rattle.std.proofs.Common.{◌≡◌, ◌⊎◌, ℕ, Bool, true, false, List, [], Option, Some, None, refl, sym, ap}
 use Rattle.std.proofs.Common.{◌∙◌, inl, inr, subst, true≢false}
-use Rattle.std.specs.Prelude.{not}
+use Rattle.std.specs.Prelude.{not, option_map}
 use Rattle.lsp_rpc.specs.Act.{Act}
 use Rattle.lsp_rpc.specs.Message as spoken
 use Rattle.lsp_rpc.specs.Message.{Message}
@@ -13,11 +13,12 @@ use Rattle.lsp_session.specs.OpenInitialize.{Initialize}
 use Rattle.lsp_session.specs.Sent.{Sent}
 use Rattle.lsp_types.specs.declared.side.Side.{Side}
 use Rattle.lsp_replay.specs.Standing.{HasValue}
-use Rattle.lsp_replay.specs.Telling.{IsSpoken}
+use Rattle.lsp_replay.specs.Telling.{IsSpoken, MaySpeak}
 use Rattle.lsp_verdict.specs.Event.{Event, fault, message, sent_in, snapshot}
 use Rattle.lsp_verdict.specs.Placed.{IsSent, ReadsAs}
 use Rattle.lsp_redact.specs.Kept as kept
 use Rattle.lsp_redact.specs.Kept.{Head, Kept, awaits, head_of, kept_of}
+use Rattle.lsp_redact.specs.View as view
 
 -- ---- the head of a message
 
@@ -73,3 +74,12 @@ pub unspoken_kept : (before : List Event) (event : Event) (side : Side) (bytes :
 unspoken_kept before (message sent) side bytes reads none = absurd (none sent refl)
 unspoken_kept before (fault by rule) side bytes reads none = refl
 unspoken_kept before (snapshot uri number text) side bytes reads none = absurd reads
+
+-- of a content that is one or none
+pub content_kept : (before : List Event) (event : Event) (side : Side) (bytes : List ℕ)
+    (o : Option Spoken) → ReadsAs side bytes event → MaySpeak before event o
+    → option_map (view.spoken_kept side (awaits before)) o ≡ kept_of before event
+content_kept before event side bytes (Some s) reads (by, is) =
+    spoken_kept before event side by bytes s reads is
+content_kept before event side bytes None reads none =
+    unspoken_kept before event side bytes reads none

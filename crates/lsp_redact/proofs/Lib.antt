@@ -40,3 +40,9 @@ pub mod NamesFew
 pub mod BrokenContents
 pub mod StoppedVerdicts
 pub mod RedactedLaws
+pub mod Members
+pub mod NamesShown
+pub mod ShownLists
+pub mod WrittenTexts
+pub mod AccountKeeps
+pub mod ShownKept

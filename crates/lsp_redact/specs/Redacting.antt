@@ -12,7 +12,7 @@ use Rattle.lsp_log.specs.Log.{Record, first_line, spelling}
 use Rattle.lsp_replay.specs.Run.{IsJudged, Run, Tail}
 use Rattle.lsp_replay.specs.Telling.{no_of, rule_of}
 use Rattle.lsp_types.specs.declared.side.Side.{Side}
-use Rattle.lsp_verdict.specs.Event.{Event, fault}
+use Rattle.lsp_verdict.specs.Event.{Event, fault, message, snapshot}
 use Rattle.lsp_verdict.specs.Heard.{Heard, heard_events}
 use Rattle.lsp_verdict.specs.Outcome.{is_rest}
 use Rattle.lsp_verdict.specs.Placed.{Raw, content, broken, show}
@@ -23,7 +23,7 @@ use Rattle.lsp_redact.specs.Characters.{apart_in}
 use Rattle.lsp_redact.specs.Kept.{Kept, kept_in, kept_of}
 use Rattle.lsp_redact.specs.Names.{Names, joined, names_in, names_of, no_names}
 use Rattle.lsp_redact.specs.Naming.{Begins, Stands}
-use Rattle.lsp_redact.specs.Records.{AreRecordsBy, records_of}
+use Rattle.lsp_redact.specs.Records.{AreBroken, AreRecordsBy, records_of}
 use Rattle.lsp_redact.specs.Shown.{shown_kept}
 use Rattle.lsp_redact.specs.declared.redaction.Redaction.{Redaction}
 
@@ -119,6 +119,15 @@ names_by (Some kept) = names_of kept
 -- an event that is a fault is one by this rule
 abbrev pub IsFaultOf : ℕ → Event → Type 0
 IsFaultOf rule event = (side : Side) (own : ℕ) → event ≡ fault side own → own ≡ rule
+
+-- a content of a side that is refused by this rule is added as records, or nothing of a fault of the
+-- frames is; a message and a snapshot are kept
+abbrev pub IsBroken : ℕ → Raw → Event → ℕ → List ℕ → List ℕ → Type 0
+IsBroken most raw (message m) rule text_before text_after = Unit {0}
+IsBroken most raw (fault side own) rule text_before text_after =
+    (last : List Record) × AreBroken most raw rule last
+    × (text_after ≡ text_before ++ flat_map spelling last)
+IsBroken most raw (snapshot uri number text) rule text_before text_after = Unit {0}
 
 -- the event that offends by this rule, of which this is kept, is added as records, whatever names
 -- the log has

@@ -1,9 +1,11 @@
 -- What the code keeps of an event, as the definitions see it.
-use Rattle.std.specs.Prelude.{option_map, string_bytes, chars}
+use Rattle.std.specs.Prelude.{Bool, option_map, string_bytes, chars}
 use Rattle.lsp_rpc.specs.Ident.{id_view}
-use Rattle.lsp_rpc.specs.View.{act_view, picked_view}
+use Rattle.lsp_rpc.specs.View.{act_view, message_view, picked_view}
+use Rattle.lsp_rpc.specs.declared.act.Spoken.{Spoken}
+use Rattle.lsp_types.specs.declared.side.Side.{Side}
 use Rattle.lsp_redact.specs.Kept.{Head, request, notification, response}
-use Rattle.lsp_redact.specs.Kept.{Kept, message, snapshot, Reply, picks, nothing, failed}
+use Rattle.lsp_redact.specs.Kept.{Kept, head_of, message, snapshot, Reply, picks, nothing, failed}
 use Rattle.lsp_redact.specs.declared.kept.Head as head
 use Rattle.lsp_redact.specs.declared.kept.Head.TheVariants as heads
 use Rattle.lsp_redact.specs.declared.kept.Kept as kept
@@ -25,3 +27,8 @@ abbrev pub kept_view : kept.Kept → Kept
 kept_view (events.Message side head act) = message side (head_view head) (act_view act)
 kept_view (events.Snapshot version uri text) =
     snapshot (string_bytes uri) version (chars (string_bytes text))
+
+-- of a message of a side that is spoken, where an `initialize` is open or not
+abbrev pub spoken_kept : Side → Bool → Spoken → Kept
+spoken_kept side awaited s =
+    message side (head_of awaited (message_view s.message)) (act_view s.act)

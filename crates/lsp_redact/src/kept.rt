@@ -1,8 +1,8 @@
 //! What is kept of an event: what the rules read.
-ghost use Rattle.std.specs.Prelude.{◌≡◌, IfOk, List, option_map};
+ghost use Rattle.std.specs.Prelude.{◌≡◌, IfOk, List, chars, option_map};
 ghost use Rattle.lsp_redact.specs.Kept as spec;
 ghost use Rattle.lsp_redact.specs.Kept.{awaits};
-ghost use Rattle.lsp_redact.specs.View.{head_view, kept_view, reply_view};
+ghost use Rattle.lsp_redact.specs.View.{head_view, kept_view, reply_view, spoken_kept};
 ghost use Rattle.lsp_replay.specs.Telling.{MaySpeak};
 ghost use Rattle.lsp_rpc.specs.View.{act_view, answer_view, message_view};
 ghost use Rattle.lsp_verdict.specs.Event.{Event};
@@ -111,6 +111,34 @@ fn message_of(alloc: Global, side: Side, spoken: &Spoken, awaited: bool) -> Resu
     })
 }
 
+/// What is kept of a content of a side, which is this message or none.
+fn content_of(
+    alloc: Global,
+    side: Side,
+    spoken: Option<&Spoken>,
+    awaited: bool,
+) -> Result<Option<Kept>>
+    ensures { IfOk result (λ kept. option_map kept_view kept
+        ≡ option_map (spoken_kept side awaited) (option_map (λ s. s.now) spoken.entry)) }
+{
+    match spoken {
+        Some(spoken) => Ok(Some(message_of(alloc, side, spoken, awaited)?)),
+        None => Ok(None),
+    }
+}
+
+/// What is kept of a snapshot: all of it.
+fn snapshot_of(alloc: Global, version: i32, uri: &str, text: &str) -> Result<Kept>
+    ensures { IfOk result (λ kept. kept_view kept
+        ≡ spec.snapshot uri.now version (chars text.now)) }
+{
+    Ok(Kept::Snapshot {
+        version,
+        uri: String::from_str(alloc, uri)?,
+        text: String::from_str(alloc, text)?,
+    })
+}
+
 /// What is kept of an event, where an `initialize` was open before it or not. Nothing is of a fault
 /// of a side's frames, and of a content that is no message.
 pub(crate) fn kept_of(alloc: Global, seen: &Seen<'_>, awaited: bool) -> Result<Option<Kept>>
@@ -120,15 +148,14 @@ pub(crate) fn kept_of(alloc: Global, seen: &Seen<'_>, awaited: bool) -> Result<O
         → option_map kept_view kept ≡ spec.kept_of before event) }
 {
     match seen.raw {
-        Raw::Content { side, .. } => match seen.spoken {
-            Some(spoken) => Ok(Some(message_of(alloc, side, spoken, awaited)?)),
-            None => Ok(None),
-        },
+        Raw::Content { side, .. } => {
+            let kept = content_of(alloc, side, seen.spoken, awaited)?;
+            Ok(kept)
+        }
         Raw::Broken { .. } => Ok(None),
-        Raw::Snapshot { version, uri, text } => Ok(Some(Kept::Snapshot {
-            version,
-            uri: String::from_str(alloc, uri)?,
-            text: String::from_str(alloc, text)?,
-        })),
+        Raw::Snapshot { version, uri, text } => {
+            let shown = snapshot_of(alloc, version, uri, text)?;
+            Ok(Some(shown))
+        }
     }
 }

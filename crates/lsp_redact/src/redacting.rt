@@ -1,6 +1,7 @@
 //! What is kept of a log on the way, and what is written of it once its verdict is known.
 ghost use Rattle.std.specs.Prelude.{◌≡◌, ◌++◌, ◌∷◌, ◌+◌, ◌<◌, ◌^◌, [], ℕ, List, None, OnOk, Some};
-ghost use Rattle.std.specs.Prelude.{false, length, map, max, option_map, string_bytes};
+ghost use Rattle.std.specs.Prelude.{false, length, map, max, option_map, option_to_list};
+ghost use Rattle.std.specs.Prelude.{string_bytes};
 ghost use Rattle.std.specs.List.{flat_map};
 ghost use Rattle.lsp_docs.specs.Documents.{Terms};
 ghost use Rattle.lsp_log.specs.Log.{spelling};
@@ -10,8 +11,8 @@ ghost use Rattle.lsp_redact.specs.Kept as spec;
 ghost use Rattle.lsp_redact.specs.Names.{names_in, names_of};
 ghost use Rattle.lsp_redact.specs.Naming.{Writes};
 ghost use Rattle.lsp_redact.specs.Records.{records_of};
-ghost use Rattle.lsp_redact.specs.Redacting.{AddsLast, EndsAs, EndsBy, IsFaultOf, fault_at};
-ghost use Rattle.lsp_redact.specs.Redacting.{format_by, log_by, redact_run};
+ghost use Rattle.lsp_redact.specs.Redacting.{AddsLast, EndsAs, EndsBy, IsBroken, IsFaultOf};
+ghost use Rattle.lsp_redact.specs.Redacting.{fault_at, format_by, log_by, redact_run};
 ghost use Rattle.lsp_redact.specs.Shown.{shown_kept};
 ghost use Rattle.lsp_redact.specs.View.{kept_view};
 ghost use Rattle.lsp_replay.specs.Run.{IsJudged, Tail};
@@ -20,6 +21,7 @@ ghost use Rattle.lsp_verdict.specs.Event.{Event};
 ghost use Rattle.lsp_types.specs.declared.rules.TheConstants as rules;
 ghost use Rattle.lsp_verdict.specs.Given.{AreCounts, raw_view};
 ghost use Rattle.lsp_verdict.specs.Heard.{Heard, heard_events};
+ghost use Rattle.lsp_verdict.specs.Offences.{IsNoted};
 ghost use Rattle.lsp_verdict.specs.Placed.{Reads};
 ghost use Rattle.lsp_verdict.specs.Verdict.{first_no, no_next};
 
@@ -70,9 +72,8 @@ impl Redacting {
             → IsSeen held.now.session held.now.docs held.now.counts seen.now terms before h
             → rule_of terms before h ≡ None → Keeps self.new terms (before ++ h ∷ [])) }
     {
-        if let Some(kept) = kept_of(alloc, seen, self.awaits)? {
-            self.kept.push(kept)?;
-        }
+        let kept = kept_of(alloc, seen, self.awaits)?;
+        push_given(&mut self.kept, kept)?;
         self.awaits = held.session.awaits_initialize();
         Ok(())
     }
@@ -106,15 +107,34 @@ impl Redacting {
             → AddsLast (max self.now.most 1) redaction.old redaction.new (raw_view seen.now.raw) rule
             (spec.kept_of before event) (string_bytes text.old) (string_bytes text.new)) }
     {
-        let alloc = redaction.alloc;
-        if let Some(kept) = kept_of(alloc, seen, self.awaits)? {
-            return push_kept(text, redaction, &kept, self.most);
+        match kept_of(redaction.alloc, seen, self.awaits)? {
+            Some(kept) => push_kept(text, redaction, &kept, self.most),
+            None => push_broken(text, redaction.alloc, seen.raw, rule, self.most),
         }
-        let Raw::Content { side, content } = seen.raw else {
-            return Ok(());
-        };
-        let broken = broken_text(alloc, content, rule)?;
-        push_content(text, side, broken.as_str(), self.most)
+    }
+}
+
+/// Adds what stands for a content that is refused; of a fault of the frames nothing.
+fn push_broken(text: &mut String, alloc: Global, raw: Raw<'_>, rule: u16, most: usize) -> Result<()>
+    ensures { OnOk result ((event : Event) → Reads (raw_view raw.entry) event
+        → IsFaultOf rule event → IsBroken (max most 1) (raw_view raw.entry) event rule
+        (string_bytes text.old) (string_bytes text.new)) }
+{
+    let Raw::Content { side, content } = raw else {
+        return Ok(());
+    };
+    let broken = broken_text(alloc, content, rule)?;
+    push_content(text, side, broken.as_str(), most)
+}
+
+/// Adds what is kept of an event to what is kept of others, if anything is.
+fn push_given(all: &mut Vec<Kept>, kept: Option<Kept>) -> Result<()>
+    ensures { OnOk result (map kept_view all.new.items
+        ≡ map kept_view all.old.items ++ option_to_list (option_map kept_view kept)) }
+{
+    match kept {
+        Some(kept) => Ok(all.push(kept)?),
+        None => Ok(()),
     }
 }
 
@@ -158,12 +178,13 @@ fn format_of(docs: &Docs<Lined>) -> Format
 fn outcome_of(held: &Events<Lined>, raw: Raw<'_>, rule: u16) -> Outcome
     ensures { (terms : Terms) (before : List Heard) (h : Heard)
         → Stood terms held.now.session held.now.docs held.now.counts (before ++ h ∷ [])
-        → length before + 1 < 2 ^ 64 → h.raw ≡ raw_view raw.entry
+        → length before + 1 < 2 ^ 64 → h.raw ≡ raw_view raw.entry → IsNoted h.raw h.note
         → rule_of terms before h ≡ Some rule → EndsBy h.raw (no_of terms before h) result }
 {
     match raw {
         Raw::Broken { .. } => {
-            Outcome::Judged(last_offence(&held.counts, raw, rule, false).verdict())
+            let offence = last_offence(&held.counts, raw, rule, false);
+            Outcome::Judged(offence.verdict())
         }
         _ => Outcome::Done,
     }
@@ -222,7 +243,8 @@ impl Account for Redacting {
         self.say(text, format_of(&held.docs), &mut redaction)?;
         self.say_last(text, &mut redaction, seen, rule)?;
         let outcome = outcome_of(held, seen.raw, rule);
-        Ok(Flow::Stop(Box::new(alloc, outcome)?))
+        let boxed = Box::new(alloc, outcome)?;
+        Ok(Flow::Stop(boxed))
     }
 
     fn end(

@@ -1,6 +1,4 @@
-use Rattle.std.proofs.Common.{◌≡◌, ◌<◌, ℕ, refl, sym, ap, subst}
-use Rattle.lsp_replay.specs.Run.{Passes}
-use Rattle.lsp_redact.specs.Redacting.{redact_run}
+use Rattle.std.proofs.Common.{refl}
 use Rattle.lsp_redact.proofs.RedactedRuns.{redacts}
 use Rattle.lsp_redact.proofs.run.run_redact.Goals as goal
 
@@ -10,7 +8,6 @@ pass-requires g c = record {
     clean = refl;
     kept_is = ?;
     awaits_is = c.new-account.ensures.awaits;
-    some = ?;
   };
 }
 

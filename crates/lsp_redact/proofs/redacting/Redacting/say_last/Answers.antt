@@ -1,0 +1,7 @@
+use Rattle.lsp_redact.proofs.redacting.Redacting.say_last.Goals as goal
+
+pub returns-in-Some : goal.returns-in-Some
+returns-in-Some c = ?
+
+pub returns-in-None : goal.returns-in-None
+returns-in-None c = ?
