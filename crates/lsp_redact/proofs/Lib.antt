@@ -46,3 +46,6 @@ pub mod ShownLists
 pub mod WrittenTexts
 pub mod AccountKeeps
 pub mod ShownKept
+pub mod ApartTexts
+pub mod Copying
+pub mod ShownParams

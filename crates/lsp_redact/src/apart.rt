@@ -1,11 +1,12 @@
 //! The character by which two texts that differ stay apart.
-ghost use Rattle.std.specs.Prelude.{◌≡◌, IfOk, List, chars, option_and_then, option_map};
+ghost use Rattle.std.specs.Prelude.{◌≡◌, IfOk, List, Some, chars, option_and_then, option_map};
 ghost use Rattle.std.specs.Prelude.{string_bytes};
 ghost use Rattle.lsp_docs.specs.State.{Stands};
 ghost use Rattle.lsp_docs.specs.Taken.{call_view};
 ghost use Rattle.lsp_redact.specs.Characters as spec;
 ghost use Rattle.lsp_redact.specs.Characters.{seen_texts};
 ghost use Rattle.lsp_redact.specs.Redacting.{apart_at};
+ghost use Rattle.lsp_facts.specs.TwoTexts.{texts_at};
 ghost use Rattle.lsp_replay.specs.Tries.{TriesCall, made_in};
 ghost use Rattle.lsp_text.specs.SameText as same;
 ghost use Rattle.lsp_verdict.specs.Event.{Event, call_at, calls};
@@ -26,7 +27,10 @@ fn first_other(text: &str, other: &str) -> Option<char>
 {
     let mut characters = text.chars();
     for character in other.chars() {
-        if characters.next() != Some(character) {
+        let Some(own) = characters.next() else {
+            return Some(character);
+        };
+        if own != character {
             return Some(character);
         }
     }
@@ -55,6 +59,42 @@ fn apart_in(alloc: Global, texts: &TwoTexts<'_, Lined>, line_ends: LineEnds) -> 
     Ok(first_other(by_messages.as_str(), in_editor.as_str()))
 }
 
+/// The two texts of an event that offends by this rule and says this about a document, where it has
+/// any; this was tried of its changes.
+fn texts_at<'a>(
+    held: &'a Events<Lined>,
+    call: Option<Call<'a>>,
+    rule: u16,
+    tried: Option<&'a Tried<Lined>>,
+) -> Option<TwoTexts<'a, Lined>>
+    ensures { (kept : List Event) (event : Event) → Stands held.now.docs (calls kept)
+        → option_map call_view call.entry ≡ call_at kept event
+        → offence held.now.docs.terms kept event ≡ Some rule
+        → TriesCall held.now.docs.terms kept (call_at kept event) rule
+        (made_in (option_map (λ t. t.now) tried.entry))
+        → option_map seen_texts result ≡ texts_at held.now.docs.terms kept event rule }
+{
+    match call {
+        Some(call) => texts_of(&held.docs, call, rule, tried),
+        None => None,
+    }
+}
+
+/// The character by which two texts stay apart, where there are two.
+fn apart_if(
+    alloc: Global,
+    texts: Option<TwoTexts<'_, Lined>>,
+    line_ends: LineEnds,
+) -> Result<Option<char>>
+    ensures { IfOk result (λ apart. apart ≡ option_and_then (spec.apart_in line_ends)
+        (option_map seen_texts texts.entry)) }
+{
+    match texts {
+        Some(texts) => apart_in(alloc, &texts, line_ends),
+        None => Ok(None),
+    }
+}
+
 /// The character by which the two texts of a call stay apart that breaks this rule; none where it
 /// does not say that two texts differ. The documents are those before it, and this was tried of its
 /// changes.
@@ -73,11 +113,7 @@ pub(crate) fn apart_of(
         (made_in (option_map (λ t. t.now) tried.entry))
         → apart ≡ apart_at held.now.docs.terms kept event rule) }
 {
-    let Some(call) = call else {
-        return Ok(None);
-    };
-    match texts_of(&held.docs, call, rule, tried) {
-        Some(texts) => apart_in(alloc, &texts, held.docs.line_ends()),
-        None => Ok(None),
-    }
+    let texts = texts_at(held, call, rule, tried);
+    let apart = apart_if(alloc, texts, held.docs.line_ends())?;
+    Ok(apart)
 }
