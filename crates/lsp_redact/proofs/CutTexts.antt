@@ -74,6 +74,9 @@ pub record IsFront (text : List ℕ) (most at : ℕ) : Type 0 where
   pub boundary : IsCharBoundary text at
   pub front : chars (take at text) ≡ take most (chars text)
   pub back : chars (drop at text) ≡ drop most (chars text)
+  pub front_utf8 : IsUtf8 (take at text)
+  pub back_utf8 : IsUtf8 (drop at text)
+  pub within : at ≤ length text
   pub some : 0 < length text → 0 < at
 
 nothing_left : (xs : List ℕ) → length xs ≡ 0 → xs ≡ []
@@ -96,6 +99,11 @@ front_is text front rest cs most some h le full =
           ∙ ap chars (take-append_seam front rest) ∙ h.are ∙ sym (taken all);
       back = ap (λ (xs : List ℕ). chars (drop (length front) xs)) h.whole
           ∙ ap chars (drop-append_seam front rest) ∙ sym (dropped all);
+      front_utf8 = subst IsUtf8 (sym (ap (take (length front)) h.whole ∙ take-append_seam front rest))
+          h.front_utf8;
+      back_utf8 = subst IsUtf8 (sym (ap (drop (length front)) h.whole ∙ drop-append_seam front rest))
+          h.rest_utf8;
+      within = omega (arith, ap length h.whole, length-append front rest);
       some = λ long. positive long (length front) refl;
     }
   where
@@ -244,3 +252,9 @@ some_character text utf8 b is h = by_characters (chars text) (encodes-chars text
         let empty : length text ≡ 0 = ap length (sym e) in
         absurd (false≢true (sym h ∙ is ∙ ap (λ (n : ℕ). n == 0) empty))
     by_characters (x ∷ cs) e = omega arith
+
+pub no_characters_left : (text : List ℕ) (b : Bool) → b ≡ (length text == 0) → b ≡ true → text ≡ []
+no_characters_left [] b is h = refl
+no_characters_left (x ∷ xs) b is h =
+    let long : length (x ∷ xs) ≡ suc (length xs) = refl in
+    absurd (false≢true (sym (ap (λ (n : ℕ). n == 0) long) ∙ sym is ∙ h))

@@ -49,3 +49,4 @@ pub mod ShownKept
 pub mod ApartTexts
 pub mod Copying
 pub mod ShownParams
+pub mod BrokenTexts

@@ -6,12 +6,13 @@ use Rattle.std.proofs.lemmas.Grind.{flat_map-append}
 use Rattle.std.proofs.lemmas.List.{map-append, take_more}
 use Rattle.lsp_frame.specs.declared.format.Format.{Format}
 use Rattle.lsp_log.specs.Log.{Record, first_line, spelling}
+use Rattle.lsp_verdict.specs.Event.{Event, fault, message, snapshot}
 use Rattle.lsp_verdict.specs.Placed.{Raw}
-use Rattle.lsp_redact.specs.Kept.{Kept}
+use Rattle.lsp_redact.specs.Kept.{Kept, kept_of}
 use Rattle.lsp_redact.specs.Names.{Names, joined, names_in, names_of, no_names}
 use Rattle.lsp_redact.specs.Naming.{Begins, Stands, Writes}
 use Rattle.lsp_redact.specs.Records.{AreRecordsBy, records_of}
-use Rattle.lsp_redact.specs.Redacting.{AddsLast, log_by}
+use Rattle.lsp_redact.specs.Redacting.{AddsLast, IsBroken, log_by}
 use Rattle.lsp_redact.specs.Shown.{shown_kept}
 use Rattle.lsp_redact.specs.View.{kept_view}
 use Rattle.lsp_redact.specs.declared.kept.Kept as code
@@ -129,3 +130,12 @@ pub last_broken : (most : ℕ) (r : Redaction) (raw : Raw) (rule : ℕ) (o : Opt
 last_broken most r raw rule o last before after none are is =
     subst (λ (x : Option Kept). AddsLast most r r raw rule x before after) (sym none)
     (record { added = λ past whole stands begins. (last, are whole, is) })
+
+-- where nothing is kept of it
+pub last_by : (most : ℕ) (r : Redaction) (raw : Raw) (rule : ℕ) (past : List Event) (event : Event)
+    (before after : List ℕ) → kept_of past event ≡ None → IsBroken most raw event rule before after
+    → AddsLast most r r raw rule (kept_of past event) before after
+last_by most r raw rule past (message m) before after none is = absurd (cc none)
+last_by most r raw rule past (fault side own) before after none (last, are, is) =
+    last_broken most r raw rule None last before after refl (λ whole. are) is
+last_by most r raw rule past (snapshot uri number text) before after none is = absurd (cc none)

@@ -126,13 +126,16 @@ changed_of uri version changes = object
 abbrev pub changed_data : Text → ℤ → List Change → Data
 changed_data uri version changes = changed_of uri version (list (map change_data changes))
 
+abbrev pub identifier_data : Text → Data
+identifier_data uri = one (codes "uri") (text_data uri)
+
 abbrev pub closed_data : Text → Data
-closed_data uri = one (codes "textDocument") (one (codes "uri") (text_data uri))
+closed_data uri = one (codes "textDocument") (identifier_data uri)
 
 abbrev pub saved_data : Text → Option Text → Data
 saved_data uri text = object
     (member_if (codes "text") (option_map text_data text)
-    (member (codes "textDocument") (one (codes "uri") (text_data uri)) no_members))
+    (member (codes "textDocument") (identifier_data uri) no_members))
 
 -- ---- messages
 

@@ -2,7 +2,8 @@
 ghost use Rattle.std.specs.Prelude.{◌≡◌, IfOk, map, option_map, string_bytes};
 ghost use Rattle.lsp_redact.specs.Characters.{shown_bytes};
 ghost use Rattle.lsp_redact.specs.Messages.{change_data, changed_data, changed_of, closed_data};
-ghost use Rattle.lsp_redact.specs.Messages.{integer, list, opened_data, position_data};
+ghost use Rattle.lsp_redact.specs.Messages.{identifier_data, integer, list, opened_data};
+ghost use Rattle.lsp_redact.specs.Messages.{position_data};
 ghost use Rattle.lsp_redact.specs.Messages.{saved_data, span_data, text_data};
 ghost use Rattle.lsp_redact.specs.Names.{shown_uri, uri_names};
 ghost use Rattle.lsp_redact.specs.Naming.{Writes};
@@ -106,6 +107,13 @@ fn given_text(text: Option<String>) -> Option<Value>
     }
 }
 
+/// A document by its URI (LSP 3.17, TextDocumentIdentifier).
+fn identifier_value(alloc: Global, uri: String) -> Result<Value>
+    ensures { IfOk result (λ shown. view shown ≡ identifier_data (string_bytes uri)) }
+{
+    Ok(json!(in alloc; {"uri": uri})?)
+}
+
 /// The params of a `didSave`.
 fn saved_value(alloc: Global, uri: String, text: Option<String>) -> Result<Value>
     ensures { IfOk result (λ shown. view shown
@@ -113,7 +121,7 @@ fn saved_value(alloc: Global, uri: String, text: Option<String>) -> Result<Value
 {
     let mut members = no_members(alloc);
     put_given(&mut members, alloc, "text", given_text(text))?;
-    let document = json!(in alloc; {"uri": uri})?;
+    let document = identifier_value(alloc, uri)?;
     put(&mut members, alloc, "textDocument", document)?;
     Ok(object_of(members))
 }

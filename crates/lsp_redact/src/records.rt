@@ -1,6 +1,6 @@
 //! Contents and snapshots as the records of a log.
-ghost use Rattle.std.specs.Prelude.{◌≡◌, ◌++◌, ◌<◌, IfOk, OnOk, chars, drop, length, map, max};
-ghost use Rattle.std.specs.Prelude.{string_bytes, take};
+ghost use Rattle.std.specs.Prelude.{◌≡◌, ◌++◌, ◌<◌, IfOk, IsUtf8, OnOk, chars, drop, length};
+ghost use Rattle.std.specs.Prelude.{map, max, string_bytes, take};
 ghost use Rattle.std.specs.List.{flat_map};
 ghost use Rattle.lsp_frame.specs.Sink.{canonical};
 ghost use Rattle.lsp_log.specs.Log.{chunk, first_line, letter, shown, spelling, with_feed};
@@ -39,11 +39,14 @@ fn push_line(text: &mut String, line: &str) -> Result<()>
 fn split_front(text: &str, most: usize) -> (&str, &str)
     ensures front { chars result.0.now ≡ take (max most 1) (chars text.now) }
     ensures back { chars result.1.now ≡ drop (max most 1) (chars text.now) }
+    ensures utf8 { IsUtf8 result.0.now × IsUtf8 result.1.now }
     ensures less { 0 < length text.now → length result.1.now < length text.now }
 {
     let mut rest = text.chars();
     rest.nth(most.saturating_sub(1));
-    text.split_at(text.len() - rest.as_str().len())
+    let left = rest.as_str().len();
+    let at = text.len() - left;
+    text.split_at(at)
 }
 
 /// How the records of a side begin.

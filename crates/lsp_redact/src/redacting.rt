@@ -107,9 +107,16 @@ impl Redacting {
             → AddsLast (max self.now.most 1) redaction.old redaction.new (raw_view seen.now.raw) rule
             (spec.kept_of before event) (string_bytes text.old) (string_bytes text.new)) }
     {
-        match kept_of(redaction.alloc, seen, self.awaits)? {
-            Some(kept) => push_kept(text, redaction, &kept, self.most),
-            None => push_broken(text, redaction.alloc, seen.raw, rule, self.most),
+        let kept = kept_of(redaction.alloc, seen, self.awaits)?;
+        match kept {
+            Some(kept) => {
+                push_kept(text, redaction, &kept, self.most)?;
+                Ok(())
+            }
+            None => {
+                push_broken(text, redaction.alloc, seen.raw, rule, self.most)?;
+                Ok(())
+            }
         }
     }
 }
@@ -124,7 +131,8 @@ fn push_broken(text: &mut String, alloc: Global, raw: Raw<'_>, rule: u16, most: 
         return Ok(());
     };
     let broken = broken_text(alloc, content, rule)?;
-    push_content(text, side, broken.as_str(), most)
+    push_content(text, side, broken.as_str(), most)?;
+    Ok(())
 }
 
 /// Adds what is kept of an event to what is kept of others, if anything is.
@@ -149,16 +157,18 @@ fn push_kept(text: &mut String, redaction: &mut Redaction, kept: &Kept, most: us
     match kept {
         Kept::Message { side, head, act } => {
             let content = redaction.content(head, act)?;
-            push_content(text, *side, content.as_str(), most)
+            push_content(text, *side, content.as_str(), most)?;
+            Ok(())
         }
         Kept::Snapshot {
             version,
             uri,
             text: shown,
         } => {
-            let uri = redaction.names.uri(uri.as_str())?;
-            let shown = redaction.text(shown.as_str())?;
-            push_snapshot(text, *version, uri.as_str(), shown.as_str())
+            let name = redaction.names.uri(uri.as_str())?;
+            let body = redaction.text(shown.as_str())?;
+            push_snapshot(text, *version, name.as_str(), body.as_str())?;
+            Ok(())
         }
     }
 }

@@ -7,4 +7,4 @@ pub returns : goal.returns
 returns c =
     c.object_of.ensures
     ∙ ap object (save_made _ _ _ _ _ _ _ c.no_members-members.ensures c.in_ok-put_given.ensures
-    c.given_text.ensures c.in_ok-put.ensures.ok ?)
+    c.given_text.ensures c.in_ok-put.ensures.ok c.in_ok-document.ensures)

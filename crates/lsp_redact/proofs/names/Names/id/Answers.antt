@@ -5,7 +5,7 @@ use Rattle.lsp_redact.proofs.Showing.{shows_made, shows_same}
 use Rattle.lsp_redact.proofs.names.Names.id.Goals as goal
 
 pub returns-in-Number : goal.returns-in-Number
-returns-in-Number c = rw c.in-Number.is (shows_same c.args.self.now _ (view c.from.result) ?)
+returns-in-Number c = rw c.in-Number.is (shows_same c.args.self.now _ (view c.from.result) c.from.ensures)
 
 pub returns-in_ok-shown-in-Text : goal.returns-in_ok-shown-in-Text
 returns-in_ok-shown-in-Text c =

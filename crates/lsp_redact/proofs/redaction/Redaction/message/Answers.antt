@@ -1,3 +1,5 @@
+use Rattle.lsp_rpc.specs.Ident.{id_view}
+use Rattle.lsp_redact.proofs.ShownLists.{lent}
 use Rattle.lsp_redact.proofs.redaction.Redaction.message.Goals as goal
 
 pub returns-in-Request : goal.returns-in-Request
@@ -10,4 +12,7 @@ returns-in-Notification c =
     rw c.in-Notification.is told
 
 pub returns-in-Response : goal.returns-in-Response
-returns-in-Response c = ?
+returns-in-Response c =
+    let id = lent id_view c.as_ref.result c.in-Response.id.now c.as_ref.ensures.value in
+    let told = rw id at c.response.ensures in
+    rw c.in-Response.is told
