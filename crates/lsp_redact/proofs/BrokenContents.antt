@@ -37,7 +37,7 @@ use Rattle.lsp_redact.proofs.ReadMessages.{message_read}
 pub record StandsFor (rule : ℕ) : Type 0 where
   pub breaks : BreaksRule (broken_content rule) rule
   pub utf8 : IsUtf8 (broken_content rule)
-  pub other : rule ≡ rules.BAD_METHOD_PARAMS → ⊥
+  pub not_params : rule ≡ rules.BAD_METHOD_PARAMS → ⊥
 
 none_some : (d : Data) → (let none : Option Data = None in none) ≡ Some d → ⊥
 none_some d h = cc
@@ -47,7 +47,7 @@ unfolding value punctuate lex content word after_number number_of scan_numeral c
 not_json = record {
   breaks = inr (refl, λ d json. none_some d json.1);
   utf8 = IsUtf8-nil;
-  other = λ h. absurd (cc h);
+  not_params = λ h. absurd (cc h);
 }
 
 not_object : StandsFor 202
@@ -55,7 +55,7 @@ unfolding value punctuate lex content word after_number number_of scan_numeral c
 not_object = record {
   breaks = inl (_, (IsUtf8-are_ascii (broken_content 202) refl, refl), refl);
   utf8 = IsUtf8-are_ascii (broken_content 202) refl;
-  other = λ h. absurd (cc h);
+  not_params = λ h. absurd (cc h);
 }
 
 bad_version : StandsFor 203
@@ -63,7 +63,7 @@ unfolding value punctuate lex content word after_number number_of scan_numeral c
 bad_version = record {
   breaks = inl (_, (IsUtf8-are_ascii (broken_content 203) refl, refl), refl);
   utf8 = IsUtf8-are_ascii (broken_content 203) refl;
-  other = λ h. absurd (cc h);
+  not_params = λ h. absurd (cc h);
 }
 
 no_method : StandsFor 204
@@ -71,7 +71,7 @@ unfolding value punctuate lex content word after_number number_of scan_numeral c
 no_method = record {
   breaks = inl (_, (IsUtf8-are_ascii (broken_content 204) refl, refl), refl);
   utf8 = IsUtf8-are_ascii (broken_content 204) refl;
-  other = λ h. absurd (cc h);
+  not_params = λ h. absurd (cc h);
 }
 
 bad_id : StandsFor 205
@@ -79,7 +79,7 @@ unfolding value punctuate lex content word after_number number_of scan_numeral c
 bad_id = record {
   breaks = inl (_, (IsUtf8-are_ascii (broken_content 205) refl, refl), refl);
   utf8 = IsUtf8-are_ascii (broken_content 205) refl;
-  other = λ h. absurd (cc h);
+  not_params = λ h. absurd (cc h);
 }
 
 bad_params : StandsFor 206
@@ -87,7 +87,7 @@ unfolding value punctuate lex content word after_number number_of scan_numeral c
 bad_params = record {
   breaks = inl (_, (IsUtf8-are_ascii (broken_content 206) refl, refl), refl);
   utf8 = IsUtf8-are_ascii (broken_content 206) refl;
-  other = λ h. absurd (cc h);
+  not_params = λ h. absurd (cc h);
 }
 
 no_message : StandsFor 207
@@ -95,7 +95,7 @@ unfolding value punctuate lex content word after_number number_of scan_numeral c
 no_message = record {
   breaks = inl (_, (IsUtf8-are_ascii (broken_content 207) refl, refl), refl);
   utf8 = IsUtf8-are_ascii (broken_content 207) refl;
-  other = λ h. absurd (cc h);
+  not_params = λ h. absurd (cc h);
 }
 
 bad_error : StandsFor 208
@@ -103,7 +103,7 @@ unfolding value punctuate lex content word after_number number_of scan_numeral c
 bad_error = record {
   breaks = inl (_, (IsUtf8-are_ascii (broken_content 208) refl, refl), refl);
   utf8 = IsUtf8-are_ascii (broken_content 208) refl;
-  other = λ h. absurd (cc h);
+  not_params = λ h. absurd (cc h);
 }
 
 same_rule : (a b : ℕ) → (let o : Option ℕ = Some a in o) ≡ Some b → a ≡ b
@@ -122,8 +122,7 @@ least_of P (r ∷ rs) all rule h = by_test (λ more. least_of P rs all.1 rule mo
 
 value_stands : (d : Data) (rule : ℕ) → broken_rule d ≡ Some rule → StandsFor rule
 value_stands d rule h =
-    least_of StandsFor ((rules.MESSAGE_NOT_OBJECT, not (is_object d)) ∷ rules_on (parts_of d))
-    (
+    least_of StandsFor ((rules.MESSAGE_NOT_OBJECT, not (is_object d)) ∷ rules_on (parts_of d)) (
       not_object,
       (bad_version, (no_method, (bad_id, (bad_params, (no_message, (bad_error, tt)))))),
     ) rule h
@@ -228,7 +227,7 @@ pub replaced_refused : (side : Side) (bytes : List ℕ) (rule : ℕ) (text : Lis
     → IsRefused side bytes rule → Replaces bytes rule text → IsRefused side text rule × IsUtf8 text
 replaced_refused side bytes rule text (inl breaks) replaces =
     let stands = stands_for bytes rule breaks in
-    let is : text ≡ broken_content rule = replaces.of_content stands.other in (
+    let is : text ≡ broken_content rule = replaces.of_content stands.not_params in (
       inl (subst (λ (t : List ℕ). BreaksRule t rule) (sym is) stands.breaks),
       subst IsUtf8 (sym is) stands.utf8,
     )

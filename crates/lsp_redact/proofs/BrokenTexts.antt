@@ -38,6 +38,6 @@ pub never_both : (side : Side) (content : List ℕ) (rule broken : ℕ) (text : 
     → rule ≡ rules.BAD_METHOD_PARAMS → IsRefused side content rule → BreaksRule content broken
     → Replaces content rule text
 never_both side content rule broken text is (inl breaks) not =
-    absurd ((stands_for content rule breaks).other is)
+    absurd ((stands_for content rule breaks).not_params is)
 never_both side content rule broken text is (inr (same, bad)) not =
     absurd (not_both content bad.of broken bad.reads not)

@@ -10,19 +10,19 @@ use Rattle.lsp_redact.specs.Copies.{call_of}
 pub says_nothing : (a : code.Act) → ((u v t : _) → a ≡ acts.DidOpen u v t → ⊥)
     → ((u v cs : _) → a ≡ acts.DidChange u v cs → ⊥) → ((u : _) → a ≡ acts.DidClose u → ⊥)
     → ((u t : _) → a ≡ acts.DidSave u t → ⊥) → call_of (act_view a) ≡ other
-says_nothing (acts.Initialize offer) open change close save = refl
-says_nothing acts.Initialized open change close save = refl
-says_nothing acts.Shutdown open change close save = refl
-says_nothing acts.Exit open change close save = refl
-says_nothing (acts.DidOpen u v t) open change close save = absurd (open u v t refl)
-says_nothing (acts.DidChange u v cs) open change close save = absurd (change u v cs refl)
-says_nothing (acts.DidClose u) open change close save = absurd (close u refl)
-says_nothing (acts.DidSave u t) open change close save = absurd (save u t refl)
-says_nothing (acts.Cancel id) open change close save = refl
-says_nothing (acts.Progress token) open change close save = refl
-says_nothing acts.Early open change close save = refl
-says_nothing (acts.Register methods) open change close save = refl
-says_nothing acts.Other open change close save = refl
+says_nothing (acts.Initialize offer) f0 f1 f2 f3 = refl
+says_nothing acts.Initialized f0 f1 f2 f3 = refl
+says_nothing acts.Shutdown f0 f1 f2 f3 = refl
+says_nothing acts.Exit f0 f1 f2 f3 = refl
+says_nothing (acts.DidOpen u v t) f0 f1 f2 f3 = absurd (f0 u v t refl)
+says_nothing (acts.DidChange u v cs) f0 f1 f2 f3 = absurd (f1 u v cs refl)
+says_nothing (acts.DidClose u) f0 f1 f2 f3 = absurd (f2 u refl)
+says_nothing (acts.DidSave u t) f0 f1 f2 f3 = absurd (f3 u t refl)
+says_nothing (acts.Cancel id) f0 f1 f2 f3 = refl
+says_nothing (acts.Progress token) f0 f1 f2 f3 = refl
+says_nothing acts.Early f0 f1 f2 f3 = refl
+says_nothing (acts.Register methods) f0 f1 f2 f3 = refl
+says_nothing acts.Other f0 f1 f2 f3 = refl
 
 -- what is about one, or nothing
 pub is_call : (a : code.Act) → ((o : _) → a ≡ acts.Initialize o → ⊥)

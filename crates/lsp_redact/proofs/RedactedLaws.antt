@@ -1,6 +1,6 @@
 -- Every log has one that is its own with its words replaced, it has only one, and that has the
 -- verdict of the log.
-use Rattle.std.proofs.Common.{◌≡◌, ◌⊎◌, ℕ, ◌*◌, ◌≤◌, Bool, true, false, List, [], ◌∷◌, ◌++◌, Option, Some, None}
+use Rattle.std.proofs.Common.{◌≡◌, ◌⊎◌, ℕ, ◌+◌, ◌*◌, ◌≤◌, length, Bool, true, false, List, [], ◌∷◌, ◌++◌, Option, Some, None}
 use Rattle.std.proofs.Common.{inl, inr, refl, sym, ap, subst, ◌∙◌, append_assoc, append-nil, arith}
 use Rattle.std.specs.List.{AllZip, flat_map}
 use Rattle.std.specs.Option.{option_or}
@@ -27,12 +27,14 @@ use Rattle.lsp_verdict.specs.Heard.{Heard, Rests, heard_events, notes_of, raws_o
 use Rattle.lsp_verdict.specs.Offences.{IsNoted, Noted}
 use Rattle.lsp_verdict.specs.Outcome.{is_rest, log_terms}
 use Rattle.lsp_verdict.specs.Placed.{Placed, Raw, Reads, broken, content, joined, show}
-use Rattle.lsp_verdict.specs.Verdict.{Verdict, bad_log, bad_log_of, no, no_by, rest_of, whose, yes}
+use Rattle.lsp_verdict.specs.Verdict.{Verdict, bad_log, bad_log_of, belongs_to, count_of, no, no_by}
+use Rattle.lsp_verdict.specs.Verdict.{no_next, rest_of}
 use Rattle.lsp_verdict.specs.declared.outcome.Outcome.{Outcome}
 use Rattle.lsp_verdict.specs.declared.outcome.Outcome.TheVariants.{Done, Judged}
 use Rattle.lsp_verdict.specs.declared.verdict.Verdict as code
 use Rattle.lsp_verdict.specs.declared.verdict.Verdict.TheVariants as given
 use Rattle.lsp_verdict.specs.declared.verdict.Who.{Who}
+use Rattle.lsp_verdict.specs.declared.verdict.Who.TheVariants as who
 use Rattle.lsp_verdict.proofs.Below.{one_log, one_message, some_log}
 use Rattle.lsp_verdict.proofs.Offences.Surveying.{one_notes}
 use Rattle.lsp_verdict.proofs.Outcomes.{one_rest}
@@ -75,7 +77,7 @@ some_replaced side bytes rule (inl breaks) = (
   broken_content rule,
   record {
     of_content = λ other. refl;
-    of_params = λ is. absurd ((stands_for bytes rule breaks).other is);
+    of_params = λ is. absurd ((stands_for bytes rule breaks).not_params is);
   },
 )
 some_replaced side bytes rule (inr (is, bad)) = (
@@ -174,21 +176,30 @@ one_by (broken side r) v a b o is refuses p q =
     (subst (λ (x : Option Verdict). EndsBy (broken side r) x b) is q)
 one_by (show number uri text) v a b o is refuses p q = p ∙ sym q
 
+-- No by 107, as the code gives it
+abbrev given_rest : Who → List Event → code.Verdict
+given_rest by events = given.No rules.STREAM_ENDS_INSIDE_FRAME by
+    (count_of (belongs_to by) events + 1) (length events + 1)
+
 some_as : (flaw : Option (ℕ × LogCode)) (events : List Event) (editor server : Bool)
     → (outcome : Outcome)
     × EndsAs (option_or (bad_log_of flaw) (rest_of events editor server)) outcome
 some_as (Some f) events editor server =
     (Judged (given.BadLog f.0 f.1), (given.BadLog f.0 f.1, refl, refl))
-some_as None events true server = (Judged (given.No _ _ _ _), (given.No _ _ _ _, refl, refl))
-some_as None events false true = (Judged (given.No _ _ _ _), (given.No _ _ _ _, refl, refl))
+some_as None events true server =
+    (Judged (given_rest who.Editor events), (given_rest who.Editor events, refl, refl))
+some_as None events false true =
+    (Judged (given_rest who.Server events), (given_rest who.Server events, refl, refl))
 some_as None events false false = (Done, refl)
 
 one_as : (flaw : Option (ℕ × LogCode)) (events : List Event) (editor server : Bool) (a b : Outcome)
     → EndsAs (option_or (bad_log_of flaw) (rest_of events editor server)) a
     → EndsAs (option_or (bad_log_of flaw) (rest_of events editor server)) b → a ≡ b
-one_as (Some f) events editor server a b p q = one_judged _ a b tt p q
-one_as None events true server a b p q = one_judged _ a b tt p q
-one_as None events false true a b p q = one_judged _ a b tt p q
+one_as (Some f) events editor server a b p q = one_judged (bad_log f.0 f.1) a b tt p q
+one_as None events true server a b p q =
+    one_judged (no_next rules.STREAM_ENDS_INSIDE_FRAME who.Editor events) a b tt p q
+one_as None events false true a b p q =
+    one_judged (no_next rules.STREAM_ENDS_INSIDE_FRAME who.Server events) a b tt p q
 one_as None events false false a b p q = p ∙ sym q
 
 -- ---- where it stops

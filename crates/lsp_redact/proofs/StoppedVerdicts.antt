@@ -218,21 +218,20 @@ module _ (limits : Bounds) (sizes : IsInRange limits) (out : List ℕ) (format :
       → is_frame_rule rule ≡ false → IsLogTo most terms es raw e rule out → IsVerdict limits out v
   event_written e raw rule v read fits offends breaks on log = by_kept (kept_of es e) refl log
     where
-      abbrev apart : Option ℕ
-      apart = apart_at terms es e rule
-
       by_kept : (k : Option Kept) → kept_of es e ≡ k
           → ((last : List Record)
-          × AreRecordsBy most (names_in (kept_in es ++ option_to_list k)) apart raw rule k last
-          × (out ≡ log_of most terms (names_in (kept_in es ++ option_to_list k)) apart (kept_in es)
+          × AreRecordsBy most (names_in (kept_in es ++ option_to_list k)) (apart_at terms es e rule)
+          raw rule k last
+          × (out ≡ log_of most terms (names_in (kept_in es ++ option_to_list k))
+          (apart_at terms es e rule) (kept_in es)
           ++ flat_map spelling last))
           → IsVerdict limits out v
       by_kept (Some k) is (last, are, written) =
           kept_written e raw k rule v read fits offends breaks is last are written
       by_kept None is (last, are, written) =
-          none_written e raw rule v apart read fits offends breaks on is last are
+          none_written e raw rule v (apart_at terms es e rule) read fits offends breaks on is last are
           (written ∙ ap (λ (ks : List Kept).
-          log_of most terms (names_in ks) apart (kept_in es) ++ flat_map spelling last)
+          log_of most terms (names_in ks) (apart_at terms es e rule) (kept_in es) ++ flat_map spelling last)
           (append-nil (kept_in es)))
 
 -- ---- a log

@@ -59,15 +59,20 @@ fn change_value(
     text: String,
 ) -> Result<Value>
     ensures { IfOk result (λ shown. view shown ≡ change_data (record {
-        span = span;
-        range_length = range_length;
-        text = string_bytes text;
+      span = span;
+      range_length = range_length;
+      text = string_bytes text;
     })) }
 {
     let mut members = no_members(alloc);
     let range = range_value(alloc, span)?;
     put_given(&mut members, alloc, "range", range)?;
-    put_given(&mut members, alloc, "rangeLength", length_value(range_length))?;
+    put_given(
+        &mut members,
+        alloc,
+        "rangeLength",
+        length_value(range_length),
+    )?;
     put(&mut members, alloc, "text", text_value(text))?;
     Ok(object_of(members))
 }
