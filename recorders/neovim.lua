@@ -78,7 +78,7 @@ end
 -- A file whose line ends are converted on the way differs from its first snapshot on. So one check
 -- ignores line ends, and another is there only to say so once. Without a violation nothing is kept.
 local function start_alarm(log)
-  local is_told, said, block = false, false, {}
+  local is_told, said, block, is_of_ends = false, false, {}, false
   start_check(log, "--ignore-line-ends", function(line)
     local is_violation = line:match("^no %d") or line:match("^bad log ")
     is_told = is_told or is_violation
@@ -90,9 +90,12 @@ local function start_alarm(log)
     end
   end)
   start_check(log, nil, function(line, check)
-    block = line:match("^no %d") and {} or block
+    if line:match("^no %d") then
+      block, is_of_ends = {}, false
+    end
     table.insert(block, line)
-    if line:match("^line%-ends ") and not said then
+    is_of_ends = is_of_ends or line:match("^ends ") ~= nil
+    if is_of_ends and line:match("^usually ") and not said then
       said = true
       keep(log, block)
       say(("lspcheck: %s, line ends alone (:buffer %d)"):format(block[1], log.buffer))

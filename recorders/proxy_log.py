@@ -154,7 +154,7 @@ class Alarm:
             file.write(text)
 
     def tell_line_ends(self, text):
-        if not self.has_told_line_ends and b"\nline-ends " in text:
+        if not self.has_told_line_ends and b"\nends " in text:
             self.has_told_line_ends = True
             self.tell(text.replace(b"\n", b", line ends alone\n", 1))
 

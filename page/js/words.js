@@ -61,6 +61,21 @@ function shownPart(values) {
   return said;
 }
 
+function shownCode(code) {
+  return code === "end" ? "the end of the text" : code;
+}
+
+const LINE_ENDS = { "\n": "LF", "\r\n": "CR LF", "\r": "CR" };
+
+function shownEnds([kind, from, to]) {
+  if (kind === "converted") {
+    return [`nothing else differs: each is ${LINE_ENDS[from]} by the messages, and `
+      + `${LINE_ENDS[to]} in the other text`];
+  }
+  return [kind === "last" ? "only the one at the very end of the text differs" :
+    "some differ, and nothing else does"];
+}
+
 const SUSPECTS = {
   0: "none: the editor changed its text without a message, or the texts were equal again later",
   1: "one message made the texts differ, unless a change was never sent",
@@ -94,7 +109,11 @@ const LINES = {
   "by-messages": ["By the messages", shownPart],
   "in-editor": ["In the editor", shownPart],
   saved: ["Saved", shownPart],
-  "line-ends": ["Line ends", () => ["nothing else differs: see --ignore-line-ends"]],
+  codes: ["Characters", ([sent, other]) => [
+    `by the messages ${shownCode(sent)}, in the other text ${shownCode(other)}`,
+  ]],
+  ends: ["Line ends", shownEnds],
+  "line-ends": ["Option", () => ["--ignore-line-ends: then these texts are the same"]],
   kept: ["Kept versions", (versions) => [versions.join(", ")]],
   snapshot: ["Differs from", (by) => shownEvent(by)],
   equal: ["Last equal", ([version, ...by]) => [`at version ${version}: `, ...shownEvent(by)]],
@@ -144,6 +163,22 @@ function noteOn(words) {
   return ([text, ...by]) => [shownText(text), ` ${words}: `, ...shownEvent(by)];
 }
 
+// A note on a change of a didChange whose position is past the end of its line, or of the text.
+function pastEnd([line, column, what, count, ...by]) {
+  const end = what === "lines" ? `the text has ${count} lines` :
+    `that line is ${count} units long, without its line end`;
+  return [...shownEvent(by), ` changes a range at ${shownPlace(line, column)}, past the end: ${end}`];
+}
+
+// A note on a change whose rangeLength is not the length of its range.
+function wrongLength([sent, , length, ...rest]) {
+  const at = rest.indexOf("event");
+  const fits = rest.slice(1, at).map((name) => name.toUpperCase());
+  return [...shownEvent(rest.slice(at)),
+    ` has a rangeLength of ${sent}, and its range is ${length} units long`,
+    fits.length === 0 ? "" : `; in units of ${fits.join(" or ")} it is ${sent} long`];
+}
+
 const NOTES = {
   "as-notification": noteOn("is a request in LSP 3.17, and was sent as a notification"),
   "as-request": noteOn("is a notification in LSP 3.17, and was sent as a request"),
@@ -154,6 +189,12 @@ const NOTES = {
     " in the older member offsetEncoding: it may count columns in it"],
   renamed: noteOn("was renamed, and is still opened or changed under this name"),
   "nothing-compared": () => ["No snapshot was compared: yes says little about the texts"],
+  "past-end": pastEnd,
+  "range-length": wrongLength,
+  refused: ([code, uri, ...by]) => [
+    "A request about ", shownText(uri), ", which is open, was refused: ", ...shownEvent(by),
+    ` is the error ${code} (InvalidParams)`,
+  ],
   "no-snapshot": ([uri]) => [shownText(uri), " was changed, and no snapshot of it was compared"],
 };
 

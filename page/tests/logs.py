@@ -217,6 +217,34 @@ def damaged():
     return log + frame(b"E", request(3, "textDocument/hover")) + frame(b"S", result(3, None))[:-9]
 
 
+def noted():
+    """A session that breaks no rule, with a note of each kind that messages can have."""
+    uri, old = "file:///n <b>.c", "file:///old.c"
+    about = {"textDocument": {"uri": uri}}
+    answer = {"capabilities": {"textDocumentSync": 2}, "offsetEncoding": "utf-8"}
+    renamed = {"files": [{"oldUri": old, "newUri": "file:///new.c"}]}
+    return b"lsp-session 2\n" + frame(b"E", request(1, "initialize", {"capabilities": {}})) + b"".join([
+        frame(b"S", result(1, answer)),
+        frame(b"E", notification("initialized", {})),
+        frame(b"E", opened(uri, 1, "a\N{GRINNING FACE}b\nc")),
+        snapshot(uri, 1, "a\N{GRINNING FACE}b\nc"),
+        frame(b"E", changed(uri, 2, edit((0, 4), (0, 9), "!"))),
+        frame(b"E", changed(uri, 3, {**edit((0, 0), (0, 3), "a\N{GRINNING FACE}"), "rangeLength": 2})),
+        frame(b"E", request(2, "textDocument/hover", about)),
+        frame(b"S", {"jsonrpc": "2.0", "id": 2, "error": {"code": -32602, "message": "not open"}}),
+        frame(b"E", opened(old, 1, "x\n")),
+        frame(b"E", changed(old, 2, edit((7, 0), (7, 0), "y"))),
+        frame(b"E", changed(old, 3, {**edit((0, 0), (0, 1), "z"), "rangeLength": 5})),
+        frame(b"E", notification("workspace/didRenameFiles", renamed)),
+        frame(b"E", changed(old, 4, edit((0, 0), (0, 0), "w"))),
+        frame(b"E", notification("textDocument/completion", about)),
+        frame(b"S", request(1, "textDocument/publishDiagnostics")),
+        frame(b"E", request(3, "workspace/configuration")),
+        frame(b"S", notification("textDocument/didSave", about)),
+        frame(b"E", notification("exit", {})),
+    ])
+
+
 def evil():
     """Small logs that attack whoever shows them, by name: in every place that a session has."""
     mark, bytes_of = "\u202e\u2066\x1b[31m", lambda message: json.dumps(message, ensure_ascii=False).encode("utf-8", "surrogatepass")
@@ -254,6 +282,7 @@ def telling():
         "refused.log": refused(),
         "damaged.log": damaged(),
         "joined.log": joined(),
+        "noted.log": noted(),
     }
 
 

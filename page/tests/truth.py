@@ -254,6 +254,18 @@ def one_suspect(values):
     return "one message made the texts differ, unless a change was never sent" if values[0] == "1" else None
 
 
+def code_words(values):
+    sent, other = ("the end of the text" if it == "end" else it for it in values)
+    return f"by the messages {sent}, in the other text {other}"
+
+
+def ends_words(values):
+    if values[0] == "converted":
+        sent, other = ({"\n": "LF", "\r\n": "CR LF", "\r": "CR"}[it] for it in values[1:])
+        return f"nothing else differs: each is {sent} by the messages, and {other} in the other text"
+    return "only the one at the very end of the text differs" if values[0] == "last" else "some differ, and nothing else does"
+
+
 SENTENCES = {
     "held": ("Held", lambda it: f"version {it[0]}, set by {event_words(it[1:])}"),
     "sent": ("This message", lambda it: f"sets version {it[0]}"),
@@ -265,6 +277,9 @@ SENTENCES = {
     "inside": ("Inside", lambda it: f"the column falls into the character {it[0]}"),
     "fits": ("It would fit", lambda it: f"if columns were counted in {' or '.join(it).upper()}"),
     "at": ("First difference", place),
+    "codes": ("Characters", code_words),
+    "ends": ("Line ends", ends_words),
+    "line-ends": ("Option", lambda it: "--ignore-line-ends: then these texts are the same"),
     "uri": ("Document", lambda it: f"{it[0].rpartition('/')[2]} {it[0]}"),
     "equal": ("Last equal", lambda it: f"at version {it[0]}: {event_words(it[1:])}"),
     "since": ("Since", event_words),
@@ -277,6 +292,54 @@ SENTENCES = {
     "snapshot": ("Differs from", event_words),
     "suspects": ("Suspects", one_suspect),
 }
+
+
+def note_words(name, values):
+    """What is said for a note of this name."""
+    if name in MISUSES:
+        return f"{values[0]} {MISUSES[name]}: {event_words(values[1:])}"
+    if name == "past-end":
+        what = "the text has {} lines" if values[2] == "lines" else "that line is {} units long, without its line end"
+        return f"{event_words(values[4:])} changes a range at {place(values)}, past the end: {what.format(values[3])}"
+    if name == "range-length":
+        here = values.index("event")
+        fits = [it.upper() for it in values[4:here]]
+        more = f"; in units of {' or '.join(fits)} it is {values[0]} long" if fits else ""
+        return f"{event_words(values[here:])} has a rangeLength of {values[0]}, and its range is {values[2]} units long{more}"
+    if name == "refused":
+        what = f"A request about {values[1]}, which is open, was refused"
+        return f"{what}: {event_words(values[2:])} is the error {values[0]} (InvalidParams)"
+    return {
+        "exit-without-shutdown": lambda: f"The editor sent exit without shutdown: {event_words(values)}",
+        "offset-encoding": lambda: f"The server names {values[0]} in the older member offsetEncoding: it may count columns in it",
+        "nothing-compared": lambda: "No snapshot was compared: yes says little about the texts",
+        "no-snapshot": lambda: f"{values[0]} was changed, and no snapshot of it was compared",
+    }[name]()
+
+
+MISUSES = {
+    "as-notification": "is a request in LSP 3.17, and was sent as a notification",
+    "as-request": "is a notification in LSP 3.17, and was sent as a request",
+    "by-editor": "is sent only by servers in LSP 3.17, and the editor sent it",
+    "by-server": "is sent only by editors in LSP 3.17, and the server sent it",
+    "renamed": "was renamed, and is still opened or changed under this name",
+}
+
+
+def words_of(line):
+    words = re.findall(r'"(?:[^"\\]|\\.)*"|\S+', line)
+    return words[0], [json.loads(it) if it.startswith('"') else it for it in words[1:]]
+
+
+def says_each_note(page, program, log):
+    """The notes of `explain`, in its order, as sentences."""
+    notes = [words_of(it)[1] for it in lines_of(program, "explain", log) if it.startswith("note ")]
+    page.open()
+    shown = page.run(READ + "return [...document.querySelectorAll('#overview .card')].filter((it) => plain(it).startsWith('Notes')).flatMap((it) => [...it.querySelectorAll('li')].map(plain))")
+    assert shown == [note_words(name, values) for name, *values in notes], (shown, notes)
+    if log.name == "noted.log":
+        kinds = {name for name, *_ in notes}
+        assert kinds == {*MISUSES, "past-end", "range-length", "refused", "exit-without-shutdown", "offset-encoding", "no-snapshot"}, kinds
 
 
 def explains_each_violation(page, program, log):
@@ -295,13 +358,12 @@ def explains_each_violation(page, program, log):
         facts = page.run(READ + """return [...document.querySelectorAll('.selected .why .facts > dt')]
             .map((it) => [plain(it), plain(it.nextSibling)])""")
         for line in lines[1:]:
-            words = re.findall(r'"(?:[^"\\]|\\.)*"|\S+', line)
-            values = [json.loads(it) if it.startswith('"') else it for it in words[1:]]
-            if words[0] in SENTENCES:
-                label, sentence = SENTENCES[words[0]]
+            word, values = words_of(line)
+            if word in SENTENCES:
+                label, sentence = SENTENCES[word]
                 said = sentence(values)
                 assert said is None or [label, said] in facts, (line, said, facts)
-            elif words[0] in ("by-messages", "in-editor", "saved", "begins", "similar", "member"):
+            elif word in ("by-messages", "in-editor", "saved", "begins", "similar", "member"):
                 assert any(values[0] in text for _, text in facts), (line, facts)
         about = page.run(READ + "return [...document.querySelectorAll('.selected .about-rule dd')].map(plain)")
         assert about == rule_words(rule), (about, rule_words(rule))
@@ -484,7 +546,7 @@ def tests_of(window, program, place):
     made = [written(place, name, log) for name, log in logs.telling().items()]
     for log in [*EXAMPLES, *made]:
         page = window(log)
-        found = [shows_each_event, shows_the_head, explains_each_violation]
+        found = [shows_each_event, shows_the_head, explains_each_violation, says_each_note]
         rule = lines_of(program, "check", log)[0].split()[1:2]
         found += [shows_both_texts] if rule in (["608"], ["702"]) else []
         found += [shows_the_columns] if rule == ["605"] else []

@@ -1,5 +1,6 @@
 """No server holds up the command, and no process outlives it."""
 
+import ctypes
 import os
 import re
 import signal
@@ -62,34 +63,58 @@ def is_not_held_up(program, place):
     refuses_first(done, "yes sends bytes that are not frames: a header part is too long ")
 
 
+def to_another_thread(process, number):
+    """Sends a signal as the system may do: not to the first thread, where Python handles it."""
+    thread = max(map(int, os.listdir(f"/proc/{process.pid}/task")))
+    assert thread != process.pid and ctypes.CDLL(None).tgkill(process.pid, thread, number) == 0
+
+
 def leaves_no_process(program, place):
     """Each server starts a process of its own. They end with the command, however that ends."""
     log = put(place, small_session().end())
-    for number in (None, *SIGNALS):
-        children = place / f"children-{number}"
-        # With a signal, three servers run, and none of them answers.
-        words = ["lose=2", f"child={children}", *(["mute=textDocument/formatting"] if number else [])]
-        options = ["--wait", SECONDS, "--program", program, "--write", place / "new.log"]
-        command = [sys.executable, HASTY, *options, log, *SERVER, *words]
-        outputs = {"stdout": subprocess.DEVNULL, "stderr": subprocess.PIPE}
-        process = subprocess.Popen(list(map(str, command)), preexec_fn=with_signals, **outputs)
-        if number is None:
-            assert process.wait(SECONDS) == 1, process.stderr.read()
-        else:
-            assert until(lambda: children.exists() and children.read_text().count("\n") == 3)
-            process.send_signal(number)
-            assert process.wait(SECONDS) == -number, process.stderr.read()
-            assert process.stderr.read().decode() == f"lspcheck-replay: stopped by {number.name}\n"
-            assert not (place / "new.log").exists()
-        started = [int(it) for it in children.read_text().split()]
-        assert len(started) >= 2, started
-        until(lambda: not any(map(is_running, started)), 60)
-        running = [it for it in started if is_running(it)]
-        for it in running:
-            os.kill(it, signal.SIGKILL)
-        assert not running, (number, started)
-        (place / "new.log").unlink(missing_ok=True)
-        assert not [it for it in place.iterdir() if it.name.startswith(".")], list(place.iterdir())
+    ends_alone(program, place, log)
+    for number in SIGNALS:
+        ends_by(program, place, log, number, subprocess.Popen.send_signal)
+    ends_by(program, place, log, signal.SIGINT, to_another_thread)
+
+
+def ends_alone(program, place, log):
+    process, children = with_children(program, place, log)
+    assert process.wait(SECONDS) == 1, process.stderr.read()
+    leaves_nothing(place, children)
+
+
+def ends_by(program, place, log, number, send):
+    """With a signal, three servers run, and none of them answers."""
+    process, children = with_children(program, place, log, "mute=textDocument/formatting")
+    assert until(lambda: children.exists() and children.read_text().count("\n") == 3)
+    send(process, number)
+    assert process.wait(SECONDS) == -number, process.stderr.read()
+    assert process.stderr.read().decode() == f"lspcheck-replay: stopped by {number.name}\n"
+    assert not (place / "new.log").exists()
+    leaves_nothing(place, children)
+
+
+def with_children(program, place, log, *faults):
+    """The command, and the file to which the servers write who they are, and whom they started."""
+    children = place / "children"
+    options = ["--wait", SECONDS, "--program", program, "--write", place / "new.log"]
+    command = [sys.executable, HASTY, *options, log, *SERVER, "lose=2", f"child={children}", *faults]
+    outputs = {"stdout": subprocess.DEVNULL, "stderr": subprocess.PIPE}
+    return subprocess.Popen(list(map(str, command)), preexec_fn=with_signals, **outputs), children
+
+
+def leaves_nothing(place, children):
+    started = [int(it) for it in children.read_text().split()]
+    assert len(started) >= 2, started
+    until(lambda: not any(map(is_running, started)), 60)
+    running = [it for it in started if is_running(it)]
+    for it in running:
+        os.kill(it, signal.SIGKILL)
+    assert not running, started
+    children.unlink()
+    (place / "new.log").unlink(missing_ok=True)
+    assert not [it for it in place.iterdir() if it.name.startswith(".")], list(place.iterdir())
 
 
 def is_fast(program, place):

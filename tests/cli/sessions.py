@@ -225,6 +225,7 @@ REVERSED_FACTS = b'event 5 editor 4 notification "textDocument/didChange"\n' + U
 REVERSED_FACTS += b"held 1 event 4 editor 3\nsent 2\nchanges 1\nencoding utf-16\n"
 REVERSED_FACTS += b"change 1 0 2 0 1\nlength 2\nusually editor\n"
 APART = b'version 3\nencoding utf-16\nat 0 0\nby-messages "new"\nin-editor "old"\n'
+APART += b"codes U+006E U+006F\n"
 DIFFERS_FACTS = b"event 6 snapshot 1\n" + URI_LINE + b"held 3 event 5 editor 4\n" + APART
 DIFFERS_FACTS += b"snapshot event 6 snapshot 1\nsuspects 2\nsuspect 1 event 4 editor 3\n"
 DIFFERS_FACTS += b"suspect 3 event 5 editor 4\nusually editor\n"
@@ -240,13 +241,14 @@ REST_FACTS = b'end 1 editor\nbegins "abc"\nusually recorder\n'
 
 
 
-def long_lines(held, other, column, by_messages, in_editor):
+def long_lines(held, other, column, by_messages, in_editor, codes):
     """The log of a snapshot that has one long line, the report on it, and what explains it."""
     opened = OPEN_WITH.format(held)
     log = HEAD + INITIALIZE + ANSWER + INITIALIZED + editor(opened) + shown(1, other.encode())
     facts = b"event 5 snapshot 1\n" + URI_LINE
     facts += b"held 1 event 4 editor 3\nversion 1\nencoding utf-16\n"
     facts += f"at 0 {column}\nby-messages {by_messages}\nin-editor {in_editor}\n".encode()
+    facts += f"codes {codes}\n".encode()
     facts += b"snapshot event 5 snapshot 1\nsuspects 1\nsuspect 1 event 4 editor 3\n"
     facts += b"usually editor\n"
     return log, b"no 702 snapshot 1 event 5\nsnapshot differs\n", facts
@@ -266,17 +268,19 @@ LONG_LINES = [
         150,
         f'"{AS[:100]}b{AS[:99]}" cut 50 51',
         f'"{AS[:100]}c{AS[:99]}" cut 50 51',
+        "U+0062 U+0063",
     ),
-    long_lines(AS, AS + "b", 300, f'"{AS[:100]}" cut 200 0', f'"{AS[:100]}b" cut 200 0'),
-    long_lines("b" + AS, "c", 0, f'"b{AS[:199]}" cut 0 101', '"c"'),
-    long_lines(AS[:199] + "b", AS[:199] + "c", 199, f'"{AS[:199]}b"', f'"{AS[:199]}c"'),
-    long_lines(AS[:200] + "b", AS[:199] + "c", 199, f'"{AS[:101]}b" cut 99 0', f'"{AS[:199]}c"'),
+    long_lines(AS, AS + "b", 300, f'"{AS[:100]}" cut 200 0', f'"{AS[:100]}b" cut 200 0', "end U+0062"),
+    long_lines("b" + AS, "c", 0, f'"b{AS[:199]}" cut 0 101', '"c"', "U+0062 U+0063"),
+    long_lines(AS[:199] + "b", AS[:199] + "c", 199, f'"{AS[:199]}b"', f'"{AS[:199]}c"', "U+0062 U+0063"),
+    long_lines(AS[:200] + "b", AS[:199] + "c", 199, f'"{AS[:101]}b" cut 99 0', f'"{AS[:199]}c"', "U+0061 U+0063"),
     long_lines(
         SMILES + "b" + SMILES,
         SMILES + "c" + SMILES,
         300,
         f'"{SMILES[:100]}b{SMILES[:99]}" cut 50 51',
         f'"{SMILES[:100]}c{SMILES[:99]}" cut 50 51',
+        "U+0062 U+0063",
     ),
 ]
 
@@ -334,6 +338,7 @@ encoding utf-16
 at 0 0
 by-messages "new"
 in-editor "old"
+codes U+006E U+006F
 snapshot event 10 snapshot 3
 equal 1 event 6 snapshot 1
 suspects 1

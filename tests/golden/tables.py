@@ -325,6 +325,7 @@ def explained(outputs):
         word, *rest = line.split(" ")
         found |= {rest[0]} if word == "no" else {rest[1]} if line.startswith("bad log ") else {word}
         found |= {f"{word} whole"} if rest[1:] == ["whole"] else set()
+        found |= {f"{word} {rest[0]}"} if word == "ends" else set()
         found |= {line} if rest[:1] in (["option"], ["never"]) else set()
     return found
 

@@ -84,6 +84,24 @@ def tells_each(place, program):
     yield "nobody else reads it", copy.stat().st_mode & 0o777 == 0o600, copy.stat()
 
 
+def tells_lost_end(place, program):
+    """The editor adds a line end to its last line, and does not send it. The texts were equal
+    before, so the option is not offered: it is reported all the same."""
+    editor = checked(place, program, "--check")
+    editor.open(TITLE.decode(), "one\n")
+    editor.has_logged(b"didOpen")
+    say_text(editor, 1, b"one\n")
+    editor.taken(1)
+    editor.change(TITLE.decode(), 2, "two")
+    editor.has_logged(b"didChange")
+    say_text(editor, 2, b"two\n")
+    found = heads(editor, 1)
+    yield "as line ends", found == ["no 702 snapshot 2 event 7, line ends alone"], found
+    said = editor.words().split("\n")
+    yield "which", "ends last" in said and not any(it.startswith("line-ends ") for it in said), said
+    editor.quit()
+
+
 def tells_nothing(place, program):
     editor = checked(place, program, "--check")
     editor.open(TITLE.decode(), "one\n")
@@ -188,6 +206,7 @@ TESTS = {
     "vscode: a named pipe": from_vscode(os.mkfifo, None),
     "vscode: a lost change": from_vscode(lambda path: path.write_bytes(b""), 3),
     "check: each violation": tells_each,
+    "check: a lost line end": tells_lost_end,
     "check: no violation": tells_nothing,
     "check: a session": keeps_rules,
     "check: a lost change": finds_lost_change,

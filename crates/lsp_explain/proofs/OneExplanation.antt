@@ -34,7 +34,7 @@ use Rattle.lsp_explain.specs.Explained.{all_explanation, SomeExplanationOfAll, O
 use Rattle.lsp_explain.specs.Explained.{causes, noted_explanation, SomeExplanation, OneExplanation}
 use Rattle.lsp_explain.specs.Explained.{is_cause, Explained, IsWritten, end_explained, first_breach}
 use Rattle.lsp_explain.specs.Explained.{Breach, Explains, breach, breach_at, breaches, event_of}
-use Rattle.lsp_explain.specs.Traced.{setter_at, traced}
+use Rattle.lsp_explain.specs.Traced.{earlier_at, traced}
 
 -- ---- an event that offends
 
@@ -80,8 +80,8 @@ module _ (rests : Rests) (terms : Terms) where
   some_each [] all = ([], tt)
   some_each (b ∷ bs) all =
       let before = events_of (notes_of b.before) in
-      let set_by = setter_at terms before b.here.note.event in
-      let plain = some_facts terms (kept_of terms before) b.rule set_by rests b.here.raw
+      let earlier = earlier_at terms before b.here.note.event in
+      let plain = some_facts terms (kept_of terms before) b.rule earlier rests b.here.raw
       b.here.note.event all.0 in
       let own : Explained = record {
         no = no_by before b.here.note.event b.rule;
@@ -107,7 +107,7 @@ module _ (rests : Rests) (terms : Terms) where
       let facts : d.facts ≡ e.facts =
       p.facts_are.2
       ∙ ap (λ l. l ++ traced terms before b.here.note.event b.rule)
-      (one_facts terms (kept_of terms before) b.rule (setter_at terms before b.here.note.event)
+      (one_facts terms (kept_of terms before) b.rule (earlier_at terms before b.here.note.event)
       p.facts_are.0 q.facts_are.0 rests b.here.raw b.here.note.event p.facts_are.1 q.facts_are.1)
       ∙ sym q.facts_are.2 in
       let no : d.no ≡ e.no = p.no_is ∙ sym q.no_is in

@@ -36,7 +36,7 @@ use Rattle.lsp_facts.specs.Fact.{Fact, bare_event, content_event, event_line, me
 use Rattle.lsp_facts.proofs.SomeFacts.{id_in-outline, message_named, same_line}
 use Rattle.lsp_explain.proofs.SessionSteps.{alike}
 use Rattle.lsp_explain.specs.Asking.{Numbered, numbered}
-use Rattle.lsp_explain.specs.Traced.{AreTraced, said_traced, session_trace, setter_at, traced}
+use Rattle.lsp_explain.specs.Traced.{AreTraced, earlier_at, said_traced, session_trace, traced}
 
 module _ (terms : Terms) (before : List Event) (rule : ℕ) where
   abbrev kept : List Event
@@ -45,7 +45,7 @@ module _ (terms : Terms) (before : List Event) (rule : ℕ) where
   -- the facts on this event, with the events that brought it
   abbrev pub AreAll : Rests → Raw → Event → List Fact → Type 0
   AreAll rests raw event facts =
-      AreTraced (AreFacts rests terms kept raw event rule) (setter_at terms before event)
+      AreTraced (AreFacts rests terms kept raw event rule) (earlier_at terms before event)
       (traced terms before event rule) facts
 
   -- a fault of the frames
@@ -78,14 +78,14 @@ module _ (terms : Terms) (before : List Event) (rule : ℕ) where
         let plain = session_facts rule (sent_in kept) m in
         subst (λ (e : Event). AreAll rests raw e facts) (sym own.is)
         (subst (λ (b : Bool). AreTraced (AreFactsBy b terms kept m rule)
-        (setter_at terms before (message m))
+        (earlier_at terms before (message m))
         (if b then session_trace rule (numbered terms before) m.side (id_in m.message)
         else said_traced terms before (message m) rule) facts) (sym below) (plain, refl, says))
 
     -- what an event says about a document
     abbrev AreSaid : Event → Type 0
     AreSaid e = AreTraced (AreCallFacts terms kept rule (said_at terms before e))
-        (setter_at terms before e) (said_traced terms before e rule) facts
+        (earlier_at terms before e) (said_traced terms before e rule) facts
 
     -- a message that breaks a rule on documents
     pub call_said : (side : Side) (s : Spoken) → IsSpoken kept event side s → 601 ≤ rule
@@ -95,7 +95,7 @@ module _ (terms : Terms) (before : List Event) (rule : ℕ) where
         let m = own.sent in
         subst (λ (e : Event). AreAll rests raw e facts) (sym own.is)
         (subst (λ (b : Bool). AreTraced (AreFactsBy b terms kept m rule)
-        (setter_at terms before (message m))
+        (earlier_at terms before (message m))
         (if b then session_trace rule (numbered terms before) m.side (id_in m.message)
         else said_traced terms before (message m) rule) facts) (sym above)
         (subst AreSaid own.is says))

@@ -34,7 +34,7 @@ use Rattle.lsp_replay.proofs.Seeing.{events-push}
 use Rattle.lsp_facts.specs.Fact.{Fact, detail_lines, event_line}
 use Rattle.lsp_facts.specs.EventFacts.{AreFacts}
 use Rattle.lsp_text.specs.Counted.{Counted}
-use Rattle.lsp_explain.specs.Traced.{setter_at, traced, AreTraced}
+use Rattle.lsp_explain.specs.Traced.{earlier_at, traced, AreTraced}
 use Rattle.lsp_explain.specs.ExplainRuns.{TellsOf, rests_held}
 use Rattle.lsp_explain.specs.Explained.{place_in}
 use Rattle.lsp_explain.specs.Trails.{StandsAfter, IsTrail}
@@ -106,7 +106,7 @@ pub tells_of : (terms : Terms) (before : List Heard) (h : Heard) (o : Offence) (
     → (offence_view o).no ≡ no_by (heard_events before) h.note.event o.rule
     → ((rests : Rests) → Fits rests → AreTraced (AreFacts rests terms
     (kept_of terms (heard_events before)) raw h.note.event o.rule)
-    (setter_at terms (heard_events before) h.note.event)
+    (earlier_at terms (heard_events before) h.note.event)
     (traced terms (heard_events before) h.note.event o.rule) facts)
     → mid ≡ old ++ report (offence_view o).no
     → next ≡ mid ++ event_line o.event o.who o.number raw
@@ -124,7 +124,7 @@ tells_of terms before h o raw Fits facts old mid next new raw_is no_is are first
         event_is = ap (event_line o.event o.who o.number) (sym raw_is);
         facts_are = subst (λ (w : Raw). AreTraced (AreFacts rests terms
             (kept_of terms (heard_events before)) w h.note.event o.rule)
-            (setter_at terms (heard_events before) h.note.event)
+            (earlier_at terms (heard_events before) h.note.event)
             (traced terms (heard_events before) h.note.event o.rule) facts) (sym raw_is)
             (are rests fits);
       };

@@ -33,7 +33,7 @@ use Rattle.lsp_facts.specs.Fact.{Fact, detail_lines, event_line, end_event}
 use Rattle.lsp_replay.specs.declared.heard.EventPlace.{EventPlace}
 use Rattle.lsp_explain.specs.Misfits.{Found, found_kept, found_refuted}
 use Rattle.lsp_explain.specs.Notes.{Noticed, noticed, note_lines, notes_by}
-use Rattle.lsp_explain.specs.Traced.{AreTraced, lack_traced, setter_at, traced}
+use Rattle.lsp_explain.specs.Traced.{AreTraced, earlier_at, lack_traced, traced}
 use Rattle.lsp_explain.specs.Asking.{Numbered, numbered}
 
 -- ---- an event that offends
@@ -79,7 +79,7 @@ pub record Explains (rests : Rests) (terms : Terms) (b : Breach) (e : Explained)
   pub facts_are : AreTraced
       (AreFacts rests terms (kept_of terms (events_of (notes_of b.before))) b.here.raw
       b.here.note.event b.rule)
-      (setter_at terms (events_of (notes_of b.before)) b.here.note.event)
+      (earlier_at terms (events_of (notes_of b.before)) b.here.note.event)
       (traced terms (events_of (notes_of b.before)) b.here.note.event b.rule) e.facts
 
 -- ---- how a session ends

@@ -18,6 +18,7 @@ use Rattle.lsp_replay.specs.declared.heard.EventPlace.{EventPlace}
 use Rattle.lsp_replay.specs.Lines.{place_of}
 use Rattle.lsp_facts.specs.Fact.{Fact, version_by, cited, place_words, in_phase, waits}
 use Rattle.lsp_facts.specs.EventFacts.{id_in}
+use Rattle.lsp_facts.specs.declared.earlier.Earlier.{Earlier}
 use Rattle.lsp_facts.specs.Refuting.{refuting}
 use Rattle.lsp_verdict.specs.Report.{line}
 use Rattle.lsp_verdict.specs.Event.{calls, Event, message, fault, snapshot}
@@ -188,10 +189,21 @@ last_place done = option_map (λ (s : VersionEvent). s.place) (last_setter done)
 abbrev pub setter_of : Terms → List Event → List ℕ → Option EventPlace
 setter_of terms before uri = last_place (recent (steps terms uri before))
 
--- the same of the document of which an event speaks
-abbrev pub setter_at : Terms → List Event → Event → Option EventPlace
-setter_at terms before event =
-    option_and_then (λ call. setter_of terms before (uri_of call)) (said_at terms before event)
+-- **what is known of the document of a URI**: also whether a snapshot of it was equal
+abbrev pub earlier_of : Terms → List Event → List ℕ → Earlier
+earlier_of terms before uri =
+    record {
+      set_by = setter_of terms before uri;
+      was_equal = is_some (agreed (steps terms uri before));
+    }
+
+-- the same of the document of which an event speaks, if it speaks of one
+abbrev pub earlier_by : Terms → List Event → Option Call → Earlier
+earlier_by terms before None = record { set_by = None; was_equal = false }
+earlier_by terms before (Some call) = earlier_of terms before (uri_of call)
+
+abbrev pub earlier_at : Terms → List Event → Event → Earlier
+earlier_at terms before event = earlier_by terms before (said_at terms before event)
 
 -- the snapshots that differ from the text of a call after these, by their places: of those that
 -- wait for its version the ones with another text, or it is one itself, of this place
@@ -274,12 +286,11 @@ traced terms before (message m) rule =
 traced terms before (snapshot uri number text) rule =
     said_traced terms before (snapshot uri number text) rule
 
--- **what is said about an event**, where this one set the held version, **and after it the events
--- that brought it**
-abbrev pub AreTraced : (Option EventPlace → List Fact → Type 0) → Option EventPlace → List Fact
-    → List Fact → Type 0
-AreTraced AreSaid set_by brought facts =
-    (plain : List Fact) × AreSaid set_by plain × (facts ≡ plain ++ brought)
+-- **what is said about an event**, where this is known of the events before it, **and after it the
+-- events that brought it**
+abbrev pub AreTraced : (Earlier → List Fact → Type 0) → Earlier → List Fact → List Fact → Type 0
+AreTraced AreSaid earlier brought facts =
+    (plain : List Fact) × AreSaid earlier plain × (facts ≡ plain ++ brought)
 
 -- ---- sessions that lack something
 

@@ -21,7 +21,7 @@ ghost use Rattle.lsp_explain.specs.Explained.{cause_lines, end_explained, end_fa
 ghost use Rattle.lsp_explain.specs.Explained.{place_in};
 ghost use Rattle.lsp_explain.specs.ExplainRuns.{TellsOf, flaw_held, rests_held};
 ghost use Rattle.lsp_explain.specs.Trails.{StandsAfter, terms_in, IsTrail};
-ghost use Rattle.lsp_explain.specs.Traced.{AreTraced, setter_at, traced};
+ghost use Rattle.lsp_explain.specs.Traced.{AreTraced, earlier_at, traced};
 ghost use Rattle.lsp_facts.specs.EventFacts.{AreFacts, side_by};
 ghost use Rattle.lsp_facts.specs.Fact.{event_line};
 
@@ -116,7 +116,7 @@ fn facts_of(
         → (rests : Rests) → ShowsFault seen.now.raw rests
         → AreTraced (AreFacts rests (terms_in past.entry)
         (kept_of (terms_in past.entry) before) (raw_view seen.now.raw) event offence.now.rule)
-        (setter_at (terms_in past.entry) before event)
+        (earlier_at (terms_in past.entry) before event)
         (traced (terms_in past.entry) before event offence.now.rule) facts) }
 {
     let rule = offence.rule;

@@ -31,7 +31,7 @@ use crate::trail::{Conversation, Marks, Past, VersionEvent};
 use crate::twins::twin_of;
 use crate::unopened::trace_unopened;
 use lsp_docs::{Call, Tried};
-use lsp_facts::{Facts, call_facts, id_in, refuting, session_facts};
+use lsp_facts::{Earlier, Facts, call_facts, id_in, refuting, session_facts};
 use lsp_replay::EventPlace;
 use lsp_rpc::{Encoding, Id, Message, Result, Side, Spoken};
 use lsp_session::{OpenRequest, Pending};
@@ -86,7 +86,7 @@ pub(crate) fn said_traced(
         (said_at (terms_in past.entry) before event) (made_in (option_map (λ t. t.now) tried.entry))
         → spec.AreTraced (AreCallFacts (terms_in past.entry)
         (kept_of (terms_in past.entry) before) rule (said_at (terms_in past.entry) before event))
-        (spec.setter_at (terms_in past.entry) before event)
+        (spec.earlier_at (terms_in past.entry) before event)
         (spec.said_traced (terms_in past.entry) before event rule) facts) }
 {
     match call {
@@ -110,16 +110,27 @@ fn call_traced(
         (call_view call.entry) (made_in (option_map (λ t. t.now) tried.entry))
         → spec.AreTraced (AreCallFacts (terms_in past.entry)
         (kept_of (terms_in past.entry) before) rule (Some (call_view call.entry)))
-        (spec.setter_of (terms_in past.entry) before (uri_of (call_view call.entry)))
+        (spec.earlier_of (terms_in past.entry) before (uri_of (call_view call.entry)))
         (spec.call_traced (terms_in past.entry) before place rule (call_view call.entry)) facts) }
 {
     let Past { held, trail } = past;
     let encoding = held.session.encoding().unwrap_or(Encoding::Utf16);
-    let set_by = setter_of(&trail.marks, call.uri())?;
-    let mut facts = call_facts(&held.docs, encoding, call, rule, tried, set_by)?;
+    let earlier = earlier_of(&trail.marks, call.uri())?;
+    let mut facts = call_facts(&held.docs, encoding, call, rule, tried, earlier)?;
     trace_call(&mut facts, past, place, call, rule, tried)?;
     trace_unopened(&mut facts, past, call, rule)?;
     Ok(facts)
+}
+
+/// What is known of the document of a URI.
+fn earlier_of(marks: &Marks, uri: &str) -> Result<Earlier>
+    ensures { IfOk result (λ earlier. (terms : Terms) (before : List Event)
+        → AreMarks terms marks.now.map.entries before
+        → earlier ≡ spec.earlier_of terms before uri.now) }
+{
+    let set_by = setter_of(marks, uri)?;
+    let was_equal = marks.agreed(uri).is_some();
+    Ok(Earlier { set_by, was_equal })
 }
 
 /// The event that set the version that is held of a URI.

@@ -1,4 +1,6 @@
 pub mod Offers
+pub mod EndLists
+pub mod LinePlaces
 pub mod MadeChanges
 pub mod AtEdges
 pub mod OtherTexts

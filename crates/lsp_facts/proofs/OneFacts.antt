@@ -33,7 +33,7 @@ use Rattle.lsp_verdict.specs.Placed.{Raw}
 use Rattle.lsp_facts.specs.EventFacts.{AreCallFacts, AreFactsBy, AreFacts}
 use Rattle.lsp_verdict.specs.Heard.{Rests}
 use Rattle.lsp_facts.specs.Fact.{Fact, would_have, may_have, counts_in, fails}
-use Rattle.lsp_replay.specs.declared.heard.EventPlace.{EventPlace}
+use Rattle.lsp_facts.specs.declared.earlier.Earlier.{Earlier}
 use Rattle.lsp_facts.proofs.FailingChanges.{failing_rule}
 use Rattle.lsp_facts.proofs.MadeChanges.{fails_there}
 
@@ -54,11 +54,12 @@ one_difference : (enc : Encoding) (t u : Text) (key : List ℕ) (f g : List Fact
 one_difference enc t u key f g p q =
     p.2 ∙ ap (difference_facts enc t u key) (one_place t u p.0 q.0 p.1 q.1) ∙ sym q.2
 
-one_apart : (ends : LineEnds) (enc : Encoding) (t u : Text) (key : List ℕ) (f g : List Fact)
-    → AreApart ends enc t u key f → AreApart ends enc t u key g → f ≡ g
-one_apart ends enc t u key f g p q =
+one_apart : (ends : LineEnds) (enc : Encoding) (was_equal : Bool) (t u : Text) (key : List ℕ)
+    (f g : List Fact) → AreApart ends enc was_equal t u key f → AreApart ends enc was_equal t u key g
+    → f ≡ g
+one_apart ends enc was_equal t u key f g p q =
     p.are
-    ∙ ap (λ (l : List Fact). l ++ ends_facts t u)
+    ∙ ap (λ (l : List Fact). l ++ ends_facts was_equal t u)
     (one_difference enc (compared ends t) (compared ends u) key p.place q.place p.at q.at)
     ∙ sym q.are
 
@@ -173,41 +174,43 @@ one_of_rule limit h ks (saves uri text) rule f g p q = p ∙ sym q
 one_of_rule limit h ks (shows uri number text) rule f g p q = p ∙ sym q
 
 module _ (terms : Terms) (enc : Encoding) (before : List Call) (call : Call) (rule : ℕ) where
-  one_details : (texts : Option TwoTexts) (f g : List Fact)
-      → AreDetails terms enc before call rule texts f → AreDetails terms enc before call rule texts g
-      → f ≡ g
-  one_details (Some texts) f g p q =
-      one_apart terms.line_ends enc texts.by_messages texts.in_editor (editor_key call) f g p q
-  one_details None f g p q =
+  one_details : (was_equal : Bool) (texts : Option TwoTexts) (f g : List Fact)
+      → AreDetails terms enc before call rule was_equal texts f
+      → AreDetails terms enc before call rule was_equal texts g → f ≡ g
+  one_details was_equal (Some texts) f g p q =
+      one_apart terms.line_ends enc was_equal texts.by_messages texts.in_editor (editor_key call)
+      f g p q
+  one_details was_equal None f g p q =
       one_of_rule terms.limit (held terms (uri_of call) before)
       (versions_kept terms (uri_of call) before) call rule f g p q
 
-  pub one_facts_of : (set_by : Option EventPlace) (f g : List Fact)
-      → AreDocumentFacts terms enc before call rule set_by f
-      → AreDocumentFacts terms enc before call rule set_by g → f ≡ g
-  one_facts_of set_by f g p q =
+  pub one_facts_of : (earlier : Earlier) (f g : List Fact)
+      → AreDocumentFacts terms enc before call rule earlier f
+      → AreDocumentFacts terms enc before call rule earlier g → f ≡ g
+  one_facts_of earlier f g p q =
       p.are
-      ∙ ap (λ l. head_facts set_by (held terms (uri_of call) before) call ++ l)
-      (one_details (texts_of terms before call rule) p.details q.details p.says q.says)
+      ∙ ap (λ l. head_facts earlier.set_by (held terms (uri_of call) before) call ++ l)
+      (one_details earlier.was_equal (texts_of terms before call rule) p.details q.details p.says
+      q.says)
       ∙ sym q.are
 
 -- ---- any event
 
-module _ (terms : Terms) (kept : List Event) (rule : ℕ) (set_by : Option EventPlace)
+module _ (terms : Terms) (kept : List Event) (rule : ℕ) (earlier : Earlier)
     (f g : List Fact) where
-  one_call_facts : (said : Option Call) → AreCallFacts terms kept rule said set_by f → AreCallFacts terms kept rule said set_by g → f ≡ g
+  one_call_facts : (said : Option Call) → AreCallFacts terms kept rule said earlier f → AreCallFacts terms kept rule said earlier g → f ≡ g
   one_call_facts None p q = p ∙ sym q
   one_call_facts (Some call) p q =
-      one_facts_of terms (unwrap_or (encoding (sent_in kept)) Utf16) (calls kept) call rule set_by
+      one_facts_of terms (unwrap_or (encoding (sent_in kept)) Utf16) (calls kept) call rule earlier
       f g p q
 
-  one_message_facts : (m : Sent) (b : Bool) → AreFactsBy b terms kept m rule set_by f
-      → AreFactsBy b terms kept m rule set_by g → f ≡ g
+  one_message_facts : (m : Sent) (b : Bool) → AreFactsBy b terms kept m rule earlier f
+      → AreFactsBy b terms kept m rule earlier g → f ≡ g
   one_message_facts m true p q = p ∙ sym q
   one_message_facts m false p q = one_call_facts (call_at kept (message m)) p q
 
-  pub one_facts : (rests : Rests) (raw : Raw) (event : Event) → AreFacts rests terms kept raw event rule set_by f
-      → AreFacts rests terms kept raw event rule set_by g → f ≡ g
+  pub one_facts : (rests : Rests) (raw : Raw) (event : Event) → AreFacts rests terms kept raw event rule earlier f
+      → AreFacts rests terms kept raw event rule earlier g → f ≡ g
   one_facts rests raw (fault side number) p q = p ∙ sym q
   one_facts rests raw (message m) p q = one_message_facts m (nat_lt rule 601) p q
   one_facts rests raw (snapshot uri number text) p q = one_call_facts (call_at kept (snapshot uri number text)) p q

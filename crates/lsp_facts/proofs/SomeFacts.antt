@@ -33,7 +33,7 @@ use Rattle.lsp_docs.specs.Snapshots.{kept as versions_kept, waiting, versions_of
 use Rattle.lsp_docs.specs.Rules.{differs, text_rule, change_rule, fits_kind, rule_of, call_rule}
 use Rattle.lsp_session.specs.Negotiation.{encoding}
 use Rattle.lsp_session.specs.Sent.{Sent}
-use Rattle.lsp_replay.specs.declared.heard.EventPlace.{EventPlace}
+use Rattle.lsp_facts.specs.declared.earlier.Earlier.{Earlier}
 use Rattle.lsp_facts.specs.Fact.{message_event, content_message, value_message, Fact}
 use Rattle.lsp_facts.specs.EventFacts.{id_in, session_facts, fault_facts, AreCallFacts, AreFactsBy}
 use Rattle.lsp_facts.specs.EventFacts.{AreFacts}
@@ -97,15 +97,15 @@ none_named bytes rule (inr (is, none)) = by_text (is_utf8 bytes) (read bytes) re
 
 -- ---- texts that differ
 
-pub some_apart : (ends : LineEnds) (enc : Encoding) (t u : Text) (key : List ℕ)
-    → IsOther ends t u → (facts : List Fact) × AreApart ends enc t u key facts
-some_apart ends enc t u key differ =
+pub some_apart : (ends : LineEnds) (enc : Encoding) (was_equal : Bool) (t u : Text) (key : List ℕ)
+    → IsOther ends t u → (facts : List Fact) × AreApart ends enc was_equal t u key facts
+some_apart ends enc was_equal t u key differ =
     let a = compared ends t in
     let b = compared ends u in
     elim (one_difference a b) [
       | inl same ↦ absurd (differ same.0)
       | inr at ↦ (
-        difference_facts enc a b key at.0 ++ ends_facts t u,
+        difference_facts enc a b key at.0 ++ ends_facts was_equal t u,
         record {
           place = difference_facts enc a b key at.0;
           at = (at.0, at.1.first, refl);
@@ -160,34 +160,35 @@ module _ (terms : Terms) (rule : ℕ) (other : is_of_texts rule ≡ false) (ks w
 
 module _ (terms : Terms) (enc : Encoding) (before : List Call) (rule : ℕ) (call : Call)
     (e : call_rule terms before call ≡ Some rule) where
-  some_details : (texts : Option TwoTexts) → texts_of terms before call rule ≡ texts
-      → (facts : List Fact) × AreDetails terms enc before call rule texts facts
-  some_details (Some texts) is =
-      some_apart terms.line_ends enc texts.by_messages texts.in_editor (editor_key call)
+  some_details : (was_equal : Bool) (texts : Option TwoTexts)
+      → texts_of terms before call rule ≡ texts
+      → (facts : List Fact) × AreDetails terms enc before call rule was_equal texts facts
+  some_details was_equal (Some texts) is =
+      some_apart terms.line_ends enc was_equal texts.by_messages texts.in_editor (editor_key call)
       (found_differ terms before call rule e texts is)
-  some_details None is =
+  some_details was_equal None is =
       some_of_rule terms rule (none_found terms before call rule e is)
       (versions_kept terms (uri_of call) before) (versions_of (uri_of call) (waiting terms before))
       (held terms (uri_of call) before) call e
 
-  pub some_facts_of : (set_by : Option EventPlace)
-      → (facts : List Fact) × AreDocumentFacts terms enc before call rule set_by facts
-  some_facts_of set_by =
-      let details = some_details (texts_of terms before call rule) refl in (
-        head_facts set_by (held terms (uri_of call) before) call ++ details.0,
+  pub some_facts_of : (earlier : Earlier)
+      → (facts : List Fact) × AreDocumentFacts terms enc before call rule earlier facts
+  some_facts_of earlier =
+      let details = some_details earlier.was_equal (texts_of terms before call rule) refl in (
+        head_facts earlier.set_by (held terms (uri_of call) before) call ++ details.0,
         record { details = details.0; says = details.1; are = refl },
       )
 
 -- ---- any event
 
-module _ (terms : Terms) (kept : List Event) (rule : ℕ) (set_by : Option EventPlace) where
-  some_call_facts : (said : Option Call) → option_and_then (call_rule terms (calls kept)) said ≡ Some rule → (facts : List Fact) × AreCallFacts terms kept rule said set_by facts
+module _ (terms : Terms) (kept : List Event) (rule : ℕ) (earlier : Earlier) where
+  some_call_facts : (said : Option Call) → option_and_then (call_rule terms (calls kept)) said ≡ Some rule → (facts : List Fact) × AreCallFacts terms kept rule said earlier facts
   some_call_facts None e = absurd (cc)
   some_call_facts (Some call) e =
       some_facts_of terms (unwrap_or (encoding (sent_in kept)) Utf16) (calls kept) rule call e
-      set_by
+      earlier
 
-  some_message_facts : (m : Sent) → offence terms kept (message m) ≡ Some rule → (b : Bool) → nat_lt rule 601 ≡ b → (facts : List Fact) × AreFactsBy b terms kept m rule set_by facts
+  some_message_facts : (m : Sent) → offence terms kept (message m) ≡ Some rule → (b : Bool) → nat_lt rule 601 ≡ b → (facts : List Fact) × AreFactsBy b terms kept m rule earlier facts
   some_message_facts m e true below = (session_facts rule (sent_in kept) m, refl)
   some_message_facts m e false below =
       let least : 601 ≤ rule = grind (arith, nat_tests) in
@@ -195,7 +196,7 @@ module _ (terms : Terms) (kept : List Event) (rule : ℕ) (set_by : Option Event
       some_call_facts (call_at kept (message m)) (ap (option_and_then (call_rule terms (calls kept))) broken.says ∙ broken.breaks)
 
   -- there are facts on each event that offends
-  pub some_facts : (rests : Rests) (raw : Raw) (event : Event) → offence terms kept event ≡ Some rule → (facts : List Fact) × AreFacts rests terms kept raw event rule set_by facts
+  pub some_facts : (rests : Rests) (raw : Raw) (event : Event) → offence terms kept event ≡ Some rule → (facts : List Fact) × AreFacts rests terms kept raw event rule earlier facts
   some_facts rests raw (fault side number) e = (fault_facts rests rule raw, refl)
   some_facts rests raw (message m) e = some_message_facts m e (nat_lt rule 601) refl
   some_facts rests raw (snapshot uri number text) e = some_call_facts (call_at kept (snapshot uri number text)) e

@@ -3,7 +3,7 @@ use Rattle.std.proofs.Common.{◌≡◌, ℕ, [], ◌∷◌, List, Option, lengt
 use Rattle.std.proofs.Common.{Some, None, inl, inr, refl, sym, true≢false, Result, Ok, Err, arith, ◌≤◌}
 use Rattle.std.proofs.lemmas.Option.{same_Some, none-some}
 use Rattle.std.specs.Prelude.{codes, option_map, option_and_then, if◌then◌else◌, Bool, is_some}
-use Rattle.std.specs.Prelude.{nat_lt}
+use Rattle.std.specs.Prelude.{nat_lt, slice_get}
 use Rattle.std.specs.List.{list_any}
 use Rattle.std.specs.Result.{result_ok}
 use Rattle.std.proofs.lemmas.Slice.Eq.{bytes_eq-Decides}
@@ -21,7 +21,8 @@ use Rattle.lsp_docs.specs.Snapshots.{kept, waiting, versions_of}
 use Rattle.lsp_docs.specs.Rules.{call_rule, change_rule, differs, other_than, save_rule, show_rule}
 use Rattle.lsp_docs.specs.Rules.{text_rule, version_rule}
 use Rattle.lsp_facts.specs.DocumentFacts.{FindsDifference, AreOfDifference, differs_at, AreApart}
-use Rattle.lsp_facts.specs.Fact.{Fact, counts_in, part_line, Part, part_around, part_at}
+use Rattle.lsp_facts.specs.Fact.{Fact, counts_in, differing_codes, part_line, Part}
+use Rattle.lsp_facts.specs.Fact.{part_around, part_at}
 use Rattle.lsp_facts.specs.Refuting.{made_text}
 use Rattle.lsp_facts.specs.TwoTexts.{TextsDiffer, TwoTexts, against, compared, is_of_texts}
 use Rattle.lsp_facts.specs.TwoTexts.{recorded, texts_of, two_texts}
@@ -29,6 +30,7 @@ use Rattle.lsp_facts.proofs.DocumentRules.{IsOther, not_this, other_apart, same_
 use Rattle.lsp_facts.proofs.DocumentRules.{text_breaks, texts_least, version_breaks, waiting_apart}
 use Rattle.lsp_facts.proofs.DocumentRules.{waiting_some}
 use Rattle.lsp_facts.proofs.FailingChanges.{fails_by}
+use Rattle.lsp_facts.proofs.LinePlaces.{char_at_place}
 
 -- the line of a text at the place where two texts first differ, and its front, found by themselves
 pub part_there : (a b t x front : Text)
@@ -45,19 +47,43 @@ part_there a b t x front h k =
           ∙ ap (part_at (length (line_before_place t n))) h.2,
     )
 
--- the facts on two texts that differ, each found by itself
+-- and its character there
+pub char_there : (a b t x front : Text)
+    → DifferFirst a b (λ n. x ≡ line_around t n)
+    → DifferFirst a b (λ n. front ≡ line_before_place t n)
+    → DifferFirst a b (λ n. slice_get x (length front) ≡ slice_get t n)
+char_there a b t x front h k =
+    let n = h.0 in
+    let before : front ≡ line_before_place t n =
+    k.2 ∙ ap (line_before_place t) (one_place a b k.0 n k.1 h.1) in (
+      n,
+      h.1,
+      ap (λ (l : Text). slice_get x (length l)) before
+          ∙ ap (λ (l : Text). slice_get l (length (line_before_place t n))) h.2
+          ∙ char_at_place t n,
+    )
+
+-- the facts on two texts that differ, the characters `x` and `y` there
+abbrev pub apart_facts : Encoding → List ℕ → Position → Part → Part → Option ℕ → Option ℕ
+    → List Fact
+apart_facts enc key at p q x y =
+    counts_in enc ∷ differs_at at ∷ part_line (codes "by-messages") p ∷ part_line key q
+    ∷ differing_codes x y ∷ []
+
+-- the same, each found by itself
 pub are_apart : (enc : Encoding) (a b : Text) (key : List ℕ) (at : Position) (p q : Part)
+    (x y : Option ℕ)
     → DifferFirst a b (λ n. at ≡ position_at enc a n)
     → DifferFirst a b (λ n. p ≡ part_around a n) → DifferFirst a b (λ n. q ≡ part_around b n)
-    → AreOfDifference enc a b key
-    (counts_in enc ∷ differs_at at ∷ part_line (codes "by-messages") p ∷ part_line key q ∷ [])
-are_apart enc a b key at p q h k l =
+    → DifferFirst a b (λ n. x ≡ slice_get a n) → DifferFirst a b (λ n. y ≡ slice_get b n)
+    → AreOfDifference enc a b key (apart_facts enc key at p q x y)
+are_apart enc a b key at p q x y h k l v w =
     let n = h.0 in
     let held : p ≡ part_around a n = k.2 ∙ ap (part_around a) (one_place a b k.0 n k.1 h.1) in
     let other : q ≡ part_around b n = l.2 ∙ ap (part_around b) (one_place a b l.0 n l.1 h.1) in
-    let facts : Position → Part → Part → List Fact = λ at p q.
-    counts_in enc ∷ differs_at at ∷ part_line (codes "by-messages") p ∷ part_line key q ∷ [] in
-    (n, h.1, λ i. facts (h.2 i) (held i) (other i))
+    let first : x ≡ slice_get a n = v.2 ∙ ap (slice_get a) (one_place a b v.0 n v.1 h.1) in
+    let second : y ≡ slice_get b n = w.2 ∙ ap (slice_get b) (one_place a b w.0 n w.1 h.1) in
+    (n, h.1, λ i. apart_facts enc key (h.2 i) (held i) (other i) (first i) (second i))
 
 -- the same of texts that equal these
 pub found_moved : (enc : Encoding) (key : List ℕ) (found : Option (List Fact)) (x y a b : Text)
@@ -67,13 +93,15 @@ found_moved enc key found x y a b p q told =
     (subst (λ (u : Text). FindsDifference enc u y key found) p told)
 
 -- the facts on texts that equal these
-pub apart_moved : (enc : Encoding) (a ends : LineEnds) (t u other : Text) (k key : List ℕ)
-    (facts : List Fact) → a ≡ ends → t ≡ u → k ≡ key → IsOther ends u other
-    → (IsOther a t other → AreApart a enc t other k facts) → AreApart ends enc u other key facts
-apart_moved enc a ends t u other k key facts p q r differ told =
-    subst (λ (x : LineEnds). IsOther x u other → AreApart x enc u other key facts) p
-    (subst (λ (x : Text). IsOther a x other → AreApart a enc x other key facts) q
-    (subst (λ (x : List ℕ). IsOther a t other → AreApart a enc t other x facts) r told)) differ
+pub apart_moved : (enc : Encoding) (was_equal : Bool) (a ends : LineEnds) (t u other : Text)
+    (k key : List ℕ) (facts : List Fact) → a ≡ ends → t ≡ u → k ≡ key → IsOther ends u other
+    → (IsOther a t other → AreApart a enc was_equal t other k facts)
+    → AreApart ends enc was_equal u other key facts
+apart_moved enc was_equal a ends t u other k key facts p q r differ told =
+    subst (λ (x : LineEnds). IsOther x u other → AreApart x enc was_equal u other key facts) p
+    (subst (λ (x : Text). IsOther a x other → AreApart a enc was_equal x other key facts) q
+    (subst (λ (x : List ℕ). IsOther a t other → AreApart a enc was_equal t other x facts) r told))
+    differ
 
 -- ---- what a call compares
 

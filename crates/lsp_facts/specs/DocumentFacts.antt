@@ -27,10 +27,13 @@ use Rattle.lsp_docs.specs.Documents.{Terms, Version, held}
 use Rattle.lsp_docs.specs.Snapshots.{kept}
 use Rattle.json.specs.Print.{quoted}
 use Rattle.lsp_replay.specs.declared.heard.EventPlace.{EventPlace}
+use Rattle.lsp_facts.specs.declared.earlier.Earlier.{Earlier}
 use Rattle.lsp_verdict.specs.Report.{line, encoding_name, kind_name}
 use Rattle.lsp_facts.specs.Fact.{Fact, holds, sends, counts_in, fails, would_have, may_have}
 use Rattle.lsp_facts.specs.Fact.{part_line, position_words, quoted_text, spaced, part_around}
+use Rattle.lsp_facts.specs.Fact.{differing_codes}
 use Rattle.lsp_facts.specs.TwoTexts.{TwoTexts, texts_of}
+use Rattle.lsp_facts.specs.EndsApart.{ends_apart}
 
 -- ---- the encodings in which a column lies at the edge of a character
 
@@ -184,30 +187,37 @@ pub record IsFailing (limit : ℕ) (enc : Encoding) (t : Text) (cs : List Edit) 
 abbrev pub differs_at : Position → Fact
 differs_at place = codes "at" ++ position_words place ++ 10 ∷ []
 
--- where they first differ, and the line of each there, of a long one the part around the place; the
--- key is that of the other text
+-- where they first differ, the line of each there, of a long one the part around the place, and
+-- the character of each; the key is that of the other text
 abbrev pub difference_facts : Encoding → Text → Text → List ℕ → ℕ → List Fact
 difference_facts enc t other key n =
     counts_in enc ∷ differs_at (position_at enc t n)
-    ∷ part_line (codes "by-messages") (part_around t n) ∷ part_line key (part_around other n) ∷ []
+    ∷ part_line (codes "by-messages") (part_around t n) ∷ part_line key (part_around other n)
+    ∷ differing_codes (slice_get t n) (slice_get other n) ∷ []
 
 abbrev pub AreOfDifference : Encoding → Text → Text → List ℕ → List Fact → Type 0
 AreOfDifference enc t other key facts =
     DifferFirst t other (λ n. facts ≡ difference_facts enc t other key n)
 
--- that they differ in line ends alone, where they do
-abbrev pub ends_facts : Text → Text → List Fact
-ends_facts t other =
-    if same_text Ignored t other
-    then line (codes "line-ends" ∷ codes "option" ∷ codes "--ignore-line-ends" ∷ []) ∷ [] else []
+-- the option that ignores line ends. Where texts of the document were equal, line ends included, a
+-- message changed one since, and the option would hide that
+abbrev pub offer_facts : Bool → List Fact
+offer_facts was_equal =
+    if was_equal then []
+    else line (codes "line-ends" ∷ codes "option" ∷ codes "--ignore-line-ends" ∷ []) ∷ []
+
+-- **where they differ in line ends alone, in which**, and the option
+abbrev pub ends_facts : Bool → Text → Text → List Fact
+ends_facts was_equal t other =
+    if same_text Ignored t other then ends_apart t other ∷ offer_facts was_equal else []
 
 -- **two texts that are not the same**: where they first differ, as they are compared, and whether
 -- they differ in line ends alone
-pub record AreApart (ends : LineEnds) (enc : Encoding) (t other : Text) (key : List ℕ)
-    (facts : List Fact) : Type 0 where
+pub record AreApart (ends : LineEnds) (enc : Encoding) (was_equal : Bool) (t other : Text)
+    (key : List ℕ) (facts : List Fact) : Type 0 where
   pub place : List Fact
   pub at : AreOfDifference enc (compared ends t) (compared ends other) key place
-  pub are : facts ≡ place ++ ends_facts t other
+  pub are : facts ≡ place ++ ends_facts was_equal t other
 
 -- ---- by what was called
 
@@ -246,21 +256,23 @@ AreOfRule limit h kept (shows uri number text) rule facts = facts ≡ kept_fact 
 AreOfRule limit h kept call rule facts = facts ≡ []
 
 -- **under 608 and 702 the two texts that differ**, under another rule what it is about
-abbrev pub AreDetails : Terms → Encoding → List Call → Call → ℕ → Option TwoTexts → List Fact
-    → Type 0
-AreDetails terms enc before call rule (Some texts) facts =
-    AreApart terms.line_ends enc texts.by_messages texts.in_editor (editor_key call) facts
-AreDetails terms enc before call rule None facts =
+abbrev pub AreDetails : Terms → Encoding → List Call → Call → ℕ → Bool → Option TwoTexts
+    → List Fact → Type 0
+AreDetails terms enc before call rule was_equal (Some texts) facts =
+    AreApart terms.line_ends enc was_equal texts.by_messages texts.in_editor (editor_key call)
+    facts
+AreDetails terms enc before call rule was_equal None facts =
     AreOfRule terms.limit (held terms (uri_of call) before) (kept terms (uri_of call) before) call
     rule facts
 
--- **the facts on a call that breaks this rule after these calls**, where this event set the version
--- that is held. Columns count units of the encoding
+-- **the facts on a call that breaks this rule after these calls**, where this is known of the
+-- events before it. Columns count units of the encoding
 pub record AreDocumentFacts (terms : Terms) (enc : Encoding) (before : List Call) (call : Call)
-    (rule : ℕ) (set_by : Option EventPlace) (facts : List Fact) : Type 0 where
+    (rule : ℕ) (earlier : Earlier) (facts : List Fact) : Type 0 where
   pub details : List Fact
-  pub says : AreDetails terms enc before call rule (texts_of terms before call rule) details
-  pub are : facts ≡ head_facts set_by (held terms (uri_of call) before) call ++ details
+  pub says : AreDetails terms enc before call rule earlier.was_equal
+      (texts_of terms before call rule) details
+  pub are : facts ≡ head_facts earlier.set_by (held terms (uri_of call) before) call ++ details
 
 -- ---- two texts that may differ
 

@@ -34,13 +34,13 @@ use Rattle.lsp_types.specs.declared.position.Encoding.TheVariants.{Utf16}
 use Rattle.lsp_log.specs.Log.{Record}
 use Rattle.lsp_log.specs.Place.{place_of, found_behind}
 use Rattle.lsp_log.specs.declared.fault.LogCode.{LogCode}
-use Rattle.lsp_replay.specs.declared.heard.EventPlace.{EventPlace}
 use Rattle.lsp_docs.specs.Calls.{Call}
 use Rattle.lsp_docs.specs.Documents.{Terms}
 use Rattle.lsp_facts.specs.Fact.{Fact, in_phase, more_words, spaced, content_message}
 use Rattle.lsp_facts.specs.Members.{Pointer, wrong_result, wrong_member}
 use Rattle.lsp_facts.specs.Grammar.{json_break}
 use Rattle.lsp_facts.specs.DocumentFacts.{AreDocumentFacts}
+use Rattle.lsp_facts.specs.declared.earlier.Earlier.{Earlier}
 
 -- ---- bytes that are shown as text
 
@@ -239,34 +239,29 @@ fault_facts rests rule (placed.content side bytes) = content_facts rule bytes
 fault_facts rests rule (broken side code) = frame_facts (rest_of rests side)
 fault_facts rests rule (show number uri text) = []
 
--- a call on a document that breaks this rule after the kept events, of which this one set the held
--- version
-abbrev pub AreCallFacts : Terms → List Event → ℕ → Option Call → Option EventPlace → List Fact
-    → Type 0
-AreCallFacts terms kept rule None set_by facts = facts ≡ []
-AreCallFacts terms kept rule (Some call) set_by facts =
+-- a call on a document that breaks this rule after the kept events, of which this is known
+abbrev pub AreCallFacts : Terms → List Event → ℕ → Option Call → Earlier → List Fact → Type 0
+AreCallFacts terms kept rule None earlier facts = facts ≡ []
+AreCallFacts terms kept rule (Some call) earlier facts =
     AreDocumentFacts terms (unwrap_or (encoding (sent_in kept)) Utf16) (calls kept) call rule
-    set_by facts
+    earlier facts
 
 -- 301 to 504 are broken by the message, 601 to 702 by what it says about a document
-abbrev pub AreFactsBy : Bool → Terms → List Event → Sent → ℕ → Option EventPlace → List Fact
-    → Type 0
-AreFactsBy true terms kept m rule set_by facts = facts ≡ session_facts rule (sent_in kept) m
-AreFactsBy false terms kept m rule set_by facts =
-    AreCallFacts terms kept rule (call_at kept (message m)) set_by facts
+abbrev pub AreFactsBy : Bool → Terms → List Event → Sent → ℕ → Earlier → List Fact → Type 0
+AreFactsBy true terms kept m rule earlier facts = facts ≡ session_facts rule (sent_in kept) m
+AreFactsBy false terms kept m rule earlier facts =
+    AreCallFacts terms kept rule (call_at kept (message m)) earlier facts
 
-abbrev pub AreMessageFacts : Terms → List Event → Sent → ℕ → Option EventPlace → List Fact
-    → Type 0
-AreMessageFacts terms kept m rule set_by facts =
-    AreFactsBy (nat_lt rule rules.FIRST_ON_DOCUMENTS) terms kept m rule set_by facts
+abbrev pub AreMessageFacts : Terms → List Event → Sent → ℕ → Earlier → List Fact → Type 0
+AreMessageFacts terms kept m rule earlier facts =
+    AreFactsBy (nat_lt rule rules.FIRST_ON_DOCUMENTS) terms kept m rule earlier facts
 
 -- **the facts on an event that offends by this rule after the kept ones before it**, of which this
--- one set the held version of its document
-abbrev pub AreFacts : Rests → Terms → List Event → Raw → Event → ℕ → Option EventPlace → List Fact
-    → Type 0
-AreFacts rests terms kept raw (fault side number) rule set_by facts =
+-- is known
+abbrev pub AreFacts : Rests → Terms → List Event → Raw → Event → ℕ → Earlier → List Fact → Type 0
+AreFacts rests terms kept raw (fault side number) rule earlier facts =
     facts ≡ fault_facts rests rule raw
-AreFacts rests terms kept raw (message m) rule set_by facts =
-    AreMessageFacts terms kept m rule set_by facts
-AreFacts rests terms kept raw (snapshot uri number text) rule set_by facts =
-    AreCallFacts terms kept rule (call_at kept (snapshot uri number text)) set_by facts
+AreFacts rests terms kept raw (message m) rule earlier facts =
+    AreMessageFacts terms kept m rule earlier facts
+AreFacts rests terms kept raw (snapshot uri number text) rule earlier facts =
+    AreCallFacts terms kept rule (call_at kept (snapshot uri number text)) earlier facts

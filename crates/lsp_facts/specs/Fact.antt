@@ -1,12 +1,12 @@
 -- What an explanation says: a fact is its line. Lines and columns are counted from 0, columns in
 -- units of the encoding that the session agreed on; earlier events are named by their places.
-use Rattle.std.specs.Prelude.{ℕ, ◌-◌, length, take, drop, nat_lt, if◌then◌else◌, String}
+use Rattle.std.specs.Prelude.{ℕ, ◌-◌, ◌^◌, length, take, drop, nat_lt, if◌then◌else◌, String}
 use Rattle.std.specs.Prelude.{string_bytes, ℤ, List, [], ◌∷◌, ◌++◌, ◌&&◌, ◌==◌, Option, Some, None}
-use Rattle.std.specs.Prelude.{codes, decimal, Bool, ◌||◌, is_none, option_and_then}
+use Rattle.std.specs.Prelude.{codes, decimal, Bool, false, true, ◌||◌, is_none, option_and_then}
 use Rattle.std.specs.Global.{Global}
 use Rattle.std.specs.Str.{chars, is_utf8}
 use Rattle.std.specs.List.{flat_map}
-use Rattle.std.specs.Fmt.{signed_decimal}
+use Rattle.std.specs.Fmt.{signed_decimal, digits, format_spec, padded_integral}
 use Rattle.lsp_text.specs.Difference.{line_around, line_before_place}
 use Rattle.lsp_docs.specs.Calls.{Text}
 use lib.Utf8.{encodes}
@@ -126,6 +126,16 @@ phase_name phases.Exited = codes "exited"
 abbrev pub quoted_text : List ℕ → List ℕ
 quoted_text text = quoted (encodes text)
 
+-- a character by its number: at least four hexadecimal digits, as `{:04X}` writes them
+abbrev pub code_of : ℕ → List ℕ
+code_of c =
+    codes "U+" ++ padded_integral (format_spec 32 0 4 4 (2 ^ 64 - 1)) false [] (digits 16 true c)
+
+-- the same, where there is a character: else the text ends
+abbrev pub code_word : Option ℕ → List ℕ
+code_word None = codes "end"
+code_word (Some c) = code_of c
+
 -- ---- lines of one shape
 
 -- an event that is cited
@@ -146,6 +156,11 @@ abbrev pub part_line : List ℕ → Part → Fact
 part_line key part =
     if part.before == 0 && part.after == 0 then line (key ∷ quoted_text part.text ∷ [])
     else cut_line key part
+
+-- the characters at which two texts differ
+abbrev pub differing_codes : Option ℕ → Option ℕ → Fact
+differing_codes held other =
+    codes "codes" ++ spaced (code_word held) ++ spaced (code_word other) ++ 10 ∷ []
 
 -- ---- facts that are said in several places
 

@@ -4,4 +4,5 @@ pub mod Refuting
 pub mod EventFacts
 pub mod Members
 pub mod TwoTexts
+pub mod EndsApart
 pub mod DocumentFacts

@@ -7,30 +7,32 @@ ghost use Rattle.lsp_text.specs.SameText.{SameText, compared};
 ghost use Rattle.lsp_facts.specs.DocumentFacts.{AreApart, FindsDifference};
 
 use crate::facts::Facts;
-use crate::part::part_at;
+use crate::part::{char_behind, part_at};
 use lsp_rpc::Result;
 use lsp_text::{compared_lines, first_difference};
 use lsp_types::{Encoding, LineEnds};
 use std::alloc::Global;
 
 /// The facts on a held text and another one, which differ: where they first do, as they are
-/// compared, the line of each there, and whether they differ in line ends alone.
+/// compared, the line of each there, and whether they differ in line ends alone. Texts of the
+/// document may have been equal before.
 pub(crate) fn apart(
     alloc: Global,
     line_ends: LineEnds,
     encoding: Encoding,
+    was_equal: bool,
     held: &str,
     other: &str,
     key: &str,
 ) -> Result<Facts>
     ensures { IfOk result (λ facts. (SameText line_ends (chars held.now) (chars other.now) → ⊥)
-        → AreApart line_ends encoding (chars held.now) (chars other.now)
+        → AreApart line_ends encoding was_equal (chars held.now) (chars other.now)
         key.now facts) }
 {
     let Some(mut facts) = place(alloc, line_ends, encoding, held, other, key)? else {
         return Ok(Facts::new(alloc));
     };
-    facts.line_ends(held, other)?;
+    facts.line_ends(was_equal, held, other)?;
     Ok(facts)
 }
 
@@ -69,7 +71,8 @@ fn by_lines(
     Ok(found)
 }
 
-/// Where two texts first differ, and the line of each there; of a long one the part around it.
+/// Where two texts first differ, the line of each there, of a long one the part around it, and the
+/// character of each.
 fn at_difference(
     alloc: Global,
     encoding: Encoding,
@@ -89,5 +92,8 @@ fn at_difference(
     facts.part("by-messages", &held)?;
     let other = part_at(alloc, found.other, found.other_front)?;
     facts.part(key, &other)?;
+    let sent = char_behind(found.held, found.held_front);
+    let shown = char_behind(found.other, found.other_front);
+    facts.codes(sent, shown)?;
     Ok(Some(facts))
 }

@@ -19,6 +19,7 @@ ghost use Rattle.lsp_facts.specs.DocumentFacts.{AreOfRule};
 ghost use Rattle.lsp_facts.specs.TwoTexts as spec;
 
 use crate::difference::apart;
+use crate::earlier::Earlier;
 use crate::facts::Facts;
 use crate::made::{Made, as_tried};
 use crate::refused_change::{misfit, refused};
@@ -31,8 +32,8 @@ use lsp_types::{Change, Encoding, SyncKind, rules};
 use std::alloc::Global;
 
 /// What is said about a call that breaks this rule, 601 to 702. Columns count units of the
-/// encoding. The documents are those before the call, and this was tried of its changes; an event
-/// set the version that is held.
+/// encoding. The documents are those before the call, this was tried of its changes, and this is
+/// known of the events before it.
 ///
 /// # Errors
 /// `Memory` where memory was refused.
@@ -42,18 +43,18 @@ pub fn call_facts<S: TextStore>(
     call: Call<'_>,
     rule: u16,
     tried: Option<&Tried<S>>,
-    set_by: Option<EventPlace>,
+    earlier: Earlier,
 ) -> Result<Facts>
     ensures { IfOk result (λ facts. (calls : List SpecCall) → Stands docs.now calls
         → call_rule docs.now.terms calls (call_view call.entry) ≡ Some rule
         → IsTried docs.now.terms calls (call_view call.entry)
         (tried_in S.content (option_map (λ t. t.now) tried.entry))
-        → AreDocumentFacts docs.now.terms encoding calls (call_view call.entry) rule set_by
+        → AreDocumentFacts docs.now.terms encoding calls (call_view call.entry) rule earlier
         facts) }
 {
-    let mut facts = head(docs, call.uri(), set_by)?;
+    let mut facts = head(docs, call.uri(), earlier.set_by)?;
     push_sent(&mut facts, call)?;
-    facts.append(details(docs, encoding, call, rule, tried)?)?;
+    facts.append(details(docs, encoding, call, rule, tried, earlier.was_equal)?)?;
     Ok(facts)
 }
 
@@ -90,19 +91,21 @@ fn push_sent(facts: &mut Facts, call: Call<'_>) -> Result<()>
     }
 }
 
-/// What is said under the rule: of two texts, where it compares two.
+/// What is said under the rule: of two texts, where it compares two; texts of the document may have
+/// been equal before.
 fn details<S: TextStore>(
     docs: &Docs<S>,
     encoding: Encoding,
     call: Call<'_>,
     rule: u16,
     tried: Option<&Tried<S>>,
+    was_equal: bool,
 ) -> Result<Facts>
     ensures { IfOk result (λ facts. (calls : List SpecCall) → Stands docs.now calls
         → call_rule docs.now.terms calls (call_view call.entry) ≡ Some rule
         → IsTried docs.now.terms calls (call_view call.entry)
         (tried_in S.content (option_map (λ t. t.now) tried.entry))
-        → AreDetails docs.now.terms encoding calls (call_view call.entry) rule
+        → AreDetails docs.now.terms encoding calls (call_view call.entry) rule was_equal
         (spec.texts_of docs.now.terms calls (call_view call.entry) rule) facts) }
 {
     let Some(texts) = texts_of(docs, call, rule, tried) else {
@@ -113,7 +116,15 @@ fn details<S: TextStore>(
     let made = texts.by_messages.to_text(alloc)?;
     let ends = docs.line_ends();
     let key = editor_key(call);
-    let facts = apart(alloc, ends, encoding, made.as_str(), texts.in_editor, key)?;
+    let facts = apart(
+        alloc,
+        ends,
+        encoding,
+        was_equal,
+        made.as_str(),
+        texts.in_editor,
+        key,
+    )?;
     Ok(facts)
 }
 

@@ -265,7 +265,7 @@ fn text_words(alloc: Global, key: &str, text: &str) -> Result<String>
 }
 
 /// A key and characters of a document.
-fn line_words(alloc: Global, key: &str, text: &str) -> Result<String>
+pub(crate) fn line_words(alloc: Global, key: &str, text: &str) -> Result<String>
     ensures { IfOk result (λ words. string_bytes words
         ≡ key.now ++ 32 ∷ spec.quoted_text (chars text.now)) }
 {

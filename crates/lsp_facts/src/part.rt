@@ -1,5 +1,5 @@
 //! Lines of documents, of which a long one is shown as the part around a place.
-ghost use Rattle.std.specs.Prelude.{◌≡◌, IfOk, length, string_bytes};
+ghost use Rattle.std.specs.Prelude.{◌≡◌, IfOk, length, slice_get, string_bytes};
 ghost use Rattle.std.specs.Str.{chars};
 ghost use lib.Utf8.{encodes};
 ghost use Rattle.lsp_facts.specs.Fact as spec;
@@ -42,6 +42,13 @@ fn char_count(line: &str) -> usize
     ensures { result ≡ length (chars line.now) }
 {
     line.chars().count()
+}
+
+/// The character of a line behind this front of it, if there is one.
+pub(crate) fn char_behind(line: &str, front: &str) -> Option<char>
+    ensures { result ≡ slice_get (chars line.now) (length (chars front.now)) }
+{
+    line.chars().nth(char_count(front))
 }
 
 /// How many characters of a line of this many are left out before the text that is shown.

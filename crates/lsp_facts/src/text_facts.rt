@@ -8,7 +8,8 @@ ghost use Rattle.std.specs.Fmt.{signed_decimal};
 ghost use Rattle.lsp_types.specs.declared.line_ends.LineEnds.TheVariants.{Ignored};
 ghost use Rattle.lsp_text.specs.SameText.{same_text};
 ghost use Rattle.lsp_verdict.specs.Report.{encoding_name};
-ghost use Rattle.lsp_facts.specs.Fact.{counts_in, fails, position_words, spaced};
+ghost use Rattle.lsp_facts.specs.Fact.{code_word, counts_in, differing_codes, fails};
+ghost use Rattle.lsp_facts.specs.Fact.{position_words, spaced};
 ghost use Rattle.lsp_facts.specs.DocumentFacts as spec;
 ghost use Rattle.lsp_facts.specs.DocumentFacts.{edges};
 
@@ -54,6 +55,16 @@ impl Facts {
         self.push_end(words)
     }
 
+    /// The characters at which two texts differ; where a text ends, there is none.
+    pub(crate) fn codes(&mut self, held: Option<char>, other: Option<char>) -> Result<()>
+        ensures { OnOk result (self.new ≡ self.old ++ differing_codes held other ∷ []) }
+    {
+        let mut words = String::from_str(self.alloc(), "codes")?;
+        push_code(&mut words, held)?;
+        push_code(&mut words, other)?;
+        self.push_end(words)
+    }
+
     /// The versions that are kept in addition to the held one.
     pub(crate) fn kept(&mut self, versions: &[i32]) -> Result<()>
         ensures { OnOk result (self.new ≡ self.old ++ spec.keeps versions.now ∷ []) }
@@ -87,15 +98,26 @@ impl Facts {
         self.push_end(words)
     }
 
-    /// That two texts differ in line ends alone, and the option that ignores these, where they do.
-    pub(crate) fn line_ends(&mut self, held: &str, other: &str) -> Result<()>
+    /// What is said of two texts that differ in line ends alone, where they do.
+    pub(crate) fn line_ends(&mut self, was_equal: bool, held: &str, other: &str) -> Result<()>
         ensures { OnOk result (self.new ≡ self.old
-            ++ spec.ends_facts (chars held.now) (chars other.now)) }
+            ++ spec.ends_facts was_equal (chars held.now) (chars other.now)) }
     {
-        if are_same_lines(held, other) {
-            self.word("line-ends", "option --ignore-line-ends")?;
+        if !are_same_lines(held, other) {
+            return Ok(());
         }
-        Ok(())
+        self.ends(held, other)?;
+        self.offer(was_equal)
+    }
+
+    /// The option that ignores line ends, unless texts of the document were equal before.
+    fn offer(&mut self, was_equal: bool) -> Result<()>
+        ensures { OnOk result (self.new ≡ self.old ++ spec.offer_facts was_equal) }
+    {
+        if was_equal {
+            return Ok(());
+        }
+        self.word("line-ends", "option --ignore-line-ends")
     }
 
     /// The length of the line of a position, where the text has that line.
@@ -142,6 +164,20 @@ fn fits_words(alloc: Global, names: &[Encoding]) -> Result<String>
         push_encoding(&mut words, *encoding)?;
     }
     Ok(words)
+}
+
+/// Adds the number of a character, or that there is none.
+fn push_code(words: &mut String, c: Option<char>) -> Result<()>
+    ensures { OnOk result (string_bytes words.new
+        ≡ string_bytes words.old ++ spaced (code_word c)) }
+{
+    let Some(c) = c else {
+        words.push_str(" end")?;
+        return Ok(());
+    };
+    let code = c as u32;
+    write!(words, " U+{code:04X}")?;
+    Ok(())
 }
 
 fn push_encoding(words: &mut String, encoding: Encoding) -> Result<()>

@@ -19,7 +19,7 @@ use Rattle.lsp_verdict.specs.Event.{Event}
 use Rattle.lsp_verdict.proofs.Worked.Templates.{terms, I1, N1, START, OPEN, CHG, FULL, CLOSE, REQ}
 use Rattle.lsp_verdict.proofs.Worked.Templates.{RES, ERR, T}
 use Rattle.lsp_facts.specs.Fact.{fact_lines, holds}
-use Rattle.lsp_explain.specs.Traced.{lack_traced, setter_at, traced, twin, is_spelled}
+use Rattle.lsp_explain.specs.Traced.{earlier_at, lack_traced, traced, twin, is_spelled}
 use Rattle.lsp_verdict.specs.Spelling.{folded}
 
 -- the events that brought one that breaks this rule behind these
@@ -29,7 +29,7 @@ with_events rule before event = fact_lines (traced terms before event rule)
 -- the same of a snapshot of another text, behind the version that is held
 abbrev with_held : Terms → List Event → Event → ℕ → List ℕ
 with_held agreed before event held = fact_lines
-    (holds (pos held) (setter_at agreed before event) ∷ traced agreed before event 702)
+    (holds (pos held) (earlier_at agreed before event).set_by ∷ traced agreed before event 702)
 
 -- ---- ids
 

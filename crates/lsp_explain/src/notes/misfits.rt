@@ -9,7 +9,6 @@ ghost use Rattle.lsp_docs.specs.Documents.{Terms};
 ghost use Rattle.lsp_docs.specs.Rules.{call_rule};
 ghost use Rattle.lsp_docs.specs.State.{Stands};
 ghost use Rattle.lsp_docs.specs.Taken.{call_view};
-ghost use Rattle.lsp_docs.specs.declared.call.Took.TheVariants.{Changed};
 ghost use Rattle.lsp_explain.specs.DocumentNotes.{document_note, notes_view, with_note};
 ghost use Rattle.lsp_explain.specs.History.{on_document};
 ghost use Rattle.lsp_explain.specs.Misfits as spec;
@@ -17,7 +16,6 @@ ghost use Rattle.lsp_explain.specs.Misfits.{AreMisfits, MisfitsBy, finds, found_
 ghost use Rattle.lsp_explain.specs.Misfits.{found_refuted, misfit_notes};
 ghost use Rattle.lsp_facts.specs.Fact.{spaced};
 ghost use Rattle.lsp_replay.specs.Telling.{IsSeen, rule_of};
-ghost use Rattle.lsp_replay.specs.declared.seen.Fate.TheVariants.{Kept};
 ghost use Rattle.lsp_text.specs.Changes.{edits_of};
 ghost use Rattle.lsp_text.specs.Edits.{applied};
 ghost use Rattle.lsp_text.specs.Findings.{findings};
@@ -60,6 +58,9 @@ impl Misfits {
 
     /// Notes what the changes of the next event found, if it is kept. Usually they found nothing.
     ///
+    /// What was seen is lent to no other function: all of it would have to stand in memory then,
+    /// for each event.
+    ///
     /// # Errors
     /// `Memory` where memory was refused; nothing is then known of what is held.
     #[inline(always)]
@@ -75,34 +76,11 @@ impl Misfits {
         let Took::Changed(found) = took else {
             return Ok(());
         };
-        self.note_changed(held, seen, found)
-    }
-
-    /// Notes what the changes found of the next event, which is kept.
-    ///
-    /// Apart from `note_kept`, so that an event whose changes found nothing pays for a test alone.
-    ///
-    /// # Errors
-    /// `Memory` where memory was refused; nothing is then known of what is held.
-    #[cold]
-    #[inline(never)]
-    fn note_changed(
-        &mut self,
-        held: &Events<Lined>,
-        seen: &Seen<'_>,
-        found: &Findings,
-    ) -> Result<()>
-        ensures { OnOk result ((terms : Terms) (before : List Heard) (h : Heard)
-            → AreMisfits self.old (found_kept terms (heard_events before))
-            → IsSeen held.now.session held.now.docs held.now.counts seen.now terms before h
-            → seen.now.fate ≡ Kept (Changed found.now)
-            → AreMisfits self.new (found_kept terms (heard_events (before ++ h ∷ [])))) }
-    {
         let Some(call) = seen.call else {
             return Ok(());
         };
         let place = EventPlace::last(&held.counts, seen.raw.who());
-        self.note_call(place, call, *found)
+        self.note_call(place, call, by_number(found))
     }
 
     /// Notes what the changes find of the next event, which breaks this rule, if a snapshot refutes
@@ -164,6 +142,58 @@ impl Misfits {
             encoding,
             found.range_length,
         )
+    }
+}
+
+/// These findings, copied number by number, which LLVM then keeps in registers. What is copied as
+/// bytes is copied at each step on the way here, for each event, also where nothing was found.
+#[inline(always)]
+fn by_number(found: &Findings) -> Findings
+    ensures { result ≡ found.now }
+{
+    Findings {
+        past_end: past_end_by_number(found.past_end),
+        range_length: length_by_number(found.range_length),
+    }
+}
+
+#[inline(always)]
+fn past_end_by_number(found: Option<PastEnd>) -> Option<PastEnd>
+    ensures { result ≡ found }
+{
+    match found {
+        Some(
+            PastEnd {
+                position: Position { line, column },
+                extent,
+            },
+        ) => Some(PastEnd {
+            position: Position { line, column },
+            extent,
+        }),
+        None => None,
+    }
+}
+
+#[inline(always)]
+fn length_by_number(found: Option<OtherLength>) -> Option<OtherLength>
+    ensures { result ≡ found }
+{
+    match found {
+        Some(
+            OtherLength {
+                sent,
+                utf8,
+                utf16,
+                utf32,
+            },
+        ) => Some(OtherLength {
+            sent,
+            utf8,
+            utf16,
+            utf32,
+        }),
+        None => None,
     }
 }
 

@@ -14,21 +14,23 @@ ghost use Rattle.lsp_explain.specs.Openings.{Holds, on_view, ons_view};
 ghost use Rattle.lsp_explain.specs.Refusals as spec;
 ghost use Rattle.lsp_explain.specs.Refusals.{AreRefusals, invalid_params, most_requests};
 ghost use Rattle.lsp_explain.specs.Trails.{IsTrail};
-ghost use Rattle.lsp_replay.specs.Telling.{IsSeen, rule_of};
+ghost use Rattle.lsp_replay.specs.Telling.{IsSeen, MaySpeak, Stood, kept_before, rule_of};
 ghost use Rattle.lsp_rpc.specs.Ident.{id_view};
 ghost use Rattle.lsp_rpc.specs.Message.{Message as AMessage};
 ghost use Rattle.lsp_rpc.specs.Outline.{outline};
 ghost use Rattle.lsp_rpc.specs.Reading.{Reads};
 ghost use Rattle.lsp_rpc.specs.View.{answer_view, message_view};
 ghost use Rattle.lsp_verdict.specs.Event.{Event};
+ghost use Rattle.lsp_verdict.specs.Given.{raw_view};
 ghost use Rattle.lsp_verdict.specs.Heard.{Heard, heard_events};
+ghost use Rattle.lsp_verdict.specs.Offences.{IsNoted, said_at};
 
 use crate::notes::document_notes::{DocumentNote, is_noted, push_lines, push_note};
 use crate::trail::{DocumentEvent, Trail, push_within, text_at};
 use lsp_docs::Docs;
 use lsp_facts::Facts;
 use lsp_replay::{EventPlace, Events, Seen};
-use lsp_rpc::{Answer, Id, Memory, Message, Result, RpcFault, Side, push_quoted, read};
+use lsp_rpc::{Answer, Id, Memory, Message, Result, RpcFault, Side, Spoken, push_quoted, read};
 use lsp_text::Lined;
 use lsp_verdict::{Raw, who_of};
 use serde_json::Value;
@@ -83,29 +85,38 @@ impl Refusals {
             → AreRefusals terms self.new (heard_events (before ++ h ∷ []))) }
     {
         let Some(_call) = seen.call else {
-            return self.note_message(held, trail, seen);
+            return self.note_message(held, trail, seen.raw, seen.spoken);
         };
         Ok(())
     }
 
-    /// Notes the same of an event that says nothing of a document.
+    /// Notes a message that is kept and says nothing of a document. The trail is of the events
+    /// before it.
     ///
-    /// Apart from `note_event`, so that one that says something of a document pays for a test
-    /// alone.
+    /// Apart from `note_event`, so that an event that says something of a document pays for a test
+    /// alone. It takes parts of what was seen: if all were lent, all would have to stand in memory.
     #[cold]
     #[inline(never)]
-    fn note_message(&mut self, held: &Events<Lined>, trail: &Trail, seen: &Seen<'_>) -> Result<()>
+    fn note_message(
+        &mut self,
+        held: &Events<Lined>,
+        trail: &Trail,
+        raw: Raw<'_>,
+        spoken: Option<&Spoken>,
+    ) -> Result<()>
         ensures { OnOk result ((terms : Terms) (before : List Heard) (h : Heard)
             → IsTrail terms trail.now (heard_events before)
             → AreRefusals terms self.old (heard_events before)
-            → IsSeen held.now.session held.now.docs held.now.counts seen.now terms before h
-            → rule_of terms before h ≡ None → seen.now.call ≡ None
+            → Stood terms held.now.session held.now.docs held.now.counts (before ++ h ∷ [])
+            → rule_of terms before h ≡ None → IsNoted (raw_view raw.entry) h.note
+            → MaySpeak (kept_before terms before) h.note.event (option_map (λ s. s.now) spoken.entry)
+            → said_at terms (heard_events before) h.note.event ≡ None
             → AreRefusals terms self.new (heard_events (before ++ h ∷ []))) }
     {
-        let Raw::Content { side, content } = seen.raw else {
+        let Raw::Content { side, content } = raw else {
             return Ok(());
         };
-        let Some(spoken) = seen.spoken else {
+        let Some(spoken) = spoken else {
             return Ok(());
         };
         let place = EventPlace::last(&held.counts, who_of(side));

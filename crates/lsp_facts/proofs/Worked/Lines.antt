@@ -3,7 +3,7 @@ use Rattle.std.proofs.Common.{◌≡◌, ℕ, List, ◌∷◌, [], ◌++◌, ref
 use Rattle.std.specs.Prelude.{pos, negsuc, codes, Some, None}
 use Rattle.std.specs.Float.Numeral.{scan_numeral}
 use Rattle.std.specs.Str.{chars, is_utf8}
-use Rattle.std.specs.Fmt.{digits}
+use Rattle.std.specs.Fmt.{char_count, digits, padded_integral}
 use lib.Utf8.{encode}
 use Rattle.json.specs.Json.{value}
 use Rattle.json.specs.Lex.{punctuate, lex}
@@ -18,8 +18,9 @@ use Rattle.lsp_verdict.specs.declared.verdict.Who.TheVariants as who
 use Rattle.lsp_verdict.specs.Placed as placed
 use Rattle.lsp_verdict.specs.Placed.{broken, show}
 use Rattle.lsp_facts.specs.Fact.{fact_lines, fails, holds, counts_in, cited, version_by, part_line}
-use Rattle.lsp_facts.specs.Fact.{waits, more_words, end_event, event_line, usual}
+use Rattle.lsp_facts.specs.Fact.{waits, more_words, end_event, event_line, usual, differing_codes}
 use Rattle.lsp_replay.specs.declared.heard.EventPlace.{EventPlace}
+use Rattle.lsp_facts.specs.EndsApart.{ends_apart}
 use Rattle.lsp_facts.specs.EventFacts.{offer_fact}
 
 of_changes : fact_lines (fails 2 (Some (record {
@@ -34,6 +35,20 @@ of_parts : part_line (codes "by-messages") (record { before = 3; text = codes "b
     ≡ codes "by-messages \"b\\n\" cut 3 0\nsaved \"\" cut 0 12\n"
 unfolding digits escape_byte encode
 of_parts = refl
+
+of_codes : differing_codes (Some 10) (Some 97) ++ differing_codes (Some 65279) (Some 128512)
+    ++ differing_codes None (Some 4096) ++ differing_codes (Some 1114111) None
+    ≡ codes "codes U+000A U+0061\ncodes U+FEFF U+1F600\ncodes end U+1000\ncodes U+10FFFF end\n"
+unfolding digits padded_integral char_count
+of_codes = refl
+
+-- each is another kind, only the last one is, or another one is and the last one is new
+of_ends : ends_apart (codes "a\n") (codes "a\r\n")
+    ++ ends_apart (codes "a\r\nb\r\n") (codes "a\r\nb\n")
+    ++ ends_apart (codes "a\nb") (codes "a\r\nb\n")
+    ≡ codes "ends converted \"\\n\" \"\\r\\n\"\nends last\nends mixed\n"
+unfolding digits escape_byte encode
+of_ends = refl
 
 of_names : offer_fact (codes "utf-8" ∷ codes "utf-16" ∷ []) ++ more_words 12
     ≡ codes "offered \"utf-8\" \"utf-16\"\n and 12"

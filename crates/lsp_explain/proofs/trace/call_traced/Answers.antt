@@ -8,7 +8,7 @@ use Rattle.lsp_verdict.specs.Offences.{kept_of}
 use Rattle.lsp_facts.specs.DocumentFacts.{AreDocumentFacts}
 use Rattle.lsp_facts.specs.EventFacts.{AreCallFacts}
 use Rattle.lsp_explain.specs.Trails.{terms_in}
-use Rattle.lsp_explain.specs.Traced.{setter_of, unopened_traced}
+use Rattle.lsp_explain.specs.Traced.{earlier_of, unopened_traced}
 use Rattle.lsp_explain.proofs.trace.call_traced.Goals as goal
 
 pub returns : goal.returns
@@ -18,14 +18,14 @@ returns c = λ before stands breaks tried.
     let call = call_view c.args.call in
     let rule = c.args.rule in
     let plain = c.in_ok-facts.facts in
-    let set_by = c.in_ok-set_by.set_by in
+    let earlier = c.in_ok-earlier.earlier in
     let agreed = c.unwrap_or-encoding.ensures
     ∙ ap (λ o. unwrap_or o Utf16) (c.encoding.ensures (sent_in kept) stands.holds.sent) in (
       plain,
       subst (λ o. AreCallFacts terms kept rule (Some call) o plain)
-          (c.in_ok-set_by.ensures terms before stands.trail.marked
-          ∙ ap (setter_of terms before) c.uri.ensures)
-          (subst (λ e. AreDocumentFacts terms e (calls kept) call rule set_by plain) agreed
+          (c.in_ok-earlier.ensures terms before stands.trail.marked
+          ∙ ap (earlier_of terms before) c.uri.ensures)
+          (subst (λ e. AreDocumentFacts terms e (calls kept) call rule earlier plain) agreed
           (c.in_ok-facts.ensures (calls kept) stands.holds.called breaks tried)),
       c.in_ok-trace_unopened.ensures before stands
           ∙ ap (λ l. l ++ unopened_traced terms before rule (uri_of call))

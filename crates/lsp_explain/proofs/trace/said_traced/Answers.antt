@@ -13,7 +13,7 @@ use Rattle.lsp_verdict.specs.Event.{calls}
 use Rattle.lsp_verdict.specs.Offences.{kept_of, said_at}
 use Rattle.lsp_facts.specs.EventFacts.{AreCallFacts}
 use Rattle.lsp_explain.specs.Trails.{terms_in}
-use Rattle.lsp_explain.specs.Traced.{AreTraced, call_traced, setter_of}
+use Rattle.lsp_explain.specs.Traced.{AreTraced, call_traced, earlier_by, earlier_of}
 use Rattle.lsp_explain.proofs.trace.said_traced.Goals as goal
 
 pub returns-in-Some : goal.returns-in-Some
@@ -27,11 +27,11 @@ returns-in-Some c = IfOk-weaker c.call_traced.result _ _
     let is : said_at terms before event ≡ Some call =
     sym says ∙ ap (option_map call_view) c.in-Some.is in
     subst (λ o. AreTraced (AreCallFacts terms kept rule o)
-    (option_and_then (λ one. setter_of terms before (uri_of one)) o)
+    (earlier_by terms before o)
     (unwrap_or (option_map (call_traced terms before (place_of before event) rule) o) []) facts)
     (sym is)
     (subst (λ p. AreTraced (AreCallFacts terms kept rule (Some call))
-    (setter_of terms before (uri_of call)) (call_traced terms before p rule call) facts) place
+    (earlier_of terms before (uri_of call)) (call_traced terms before p rule call) facts) place
     (are before stands (ap (option_and_then (call_rule terms (calls kept))) (sym is) ∙ breaks)
     (subst (λ o. IsTriedOf terms (calls kept) o made) is tries)))) c.call_traced.ensures
 

@@ -13,11 +13,12 @@ returns g c = λ calls h e tries.
     let call = call_view c.args.call in
     let terms = c.args.docs.now.terms in
     let details = c.in_ok-details.field-0 in
-    let head : c.push_sent.new.facts ≡ head_facts c.args.set_by (held terms (uri_of call) calls) call =
+    let set_by = c.args.earlier.set_by in
+    let head : c.push_sent.new.facts ≡ head_facts set_by (held terms (uri_of call) calls) call =
     c.in_ok-push_sent.ensures
     ∙ ap (λ l. l ++ sent_facts call) (c.in_ok-facts.ensures calls h
     ∙ ap (λ (u : List ℕ). line (codes "uri" ∷ quoted u ∷ [])
-    ∷ held_fact c.args.set_by (held terms u calls)) c.uri.ensures) in
+    ∷ held_fact set_by (held terms u calls)) c.uri.ensures) in
     record {
       details = details;
       says = c.in_ok-details.ensures calls h e tries;

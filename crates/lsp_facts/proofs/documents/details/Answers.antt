@@ -11,8 +11,8 @@ returns-in_default g c = λ calls h e tries.
     let terms = c.args.docs.now.terms in
     let call = call_view c.args.call in
     let none = c.in_default.ensures calls h (λ of. e) (λ of. tries) in
-    subst (λ (o : Option TwoTexts). AreDetails terms c.args.encoding calls call c.args.rule o
-    c.in_ok-facts.facts) none
+    subst (λ (o : Option TwoTexts). AreDetails terms c.args.encoding calls call c.args.rule
+    c.args.was_equal o c.in_ok-facts.facts) none
     (c.in_ok-facts.ensures calls h e tries
     (none_found terms calls call c.args.rule e (sym none)))
 
@@ -24,9 +24,9 @@ returns g c = λ calls h e tries.
     let texts = texts_view content c.in-Some.texts in
     let some = c.in-Some.ensures calls h (λ of. e) (λ of. tries) in
     let facts = c.in_ok-facts-2.facts in
-    subst (λ (o : Option TwoTexts). AreDetails terms c.args.encoding calls call c.args.rule o facts)
-    some
-    (apart_moved c.args.encoding c.line_ends-ends.result terms.line_ends
+    subst (λ (o : Option TwoTexts). AreDetails terms c.args.encoding calls call c.args.rule
+    c.args.was_equal o facts) some
+    (apart_moved c.args.encoding c.args.was_equal c.line_ends-ends.result terms.line_ends
     (chars c.as_str.result.now) (lent_text content c.in-Some.texts.by_messages)
     (chars c.in-Some.texts.in_editor.now) c.editor_key-key.result.now (editor_key call) facts
     c.line_ends-ends.ensures (ap chars c.as_str.ensures.value ∙ c.in_ok-made.ensures)

@@ -1,7 +1,9 @@
 use Rattle.std.specs.Prelude.{option_map}
-use Rattle.std.proofs.Common.{◌∙◌, ap, sym}
+use Rattle.std.proofs.Common.{◌∙◌, ap, subst, sym}
 use Rattle.std.proofs.lemmas.Result.{on_ok_weaker}
 use Rattle.lsp_docs.specs.Taken.{call_view}
+use Rattle.lsp_verdict.specs.Offences.{IsNoted}
+use Rattle.lsp_verdict.specs.Placed.{Raw}
 use Rattle.lsp_explain.proofs.Refusing.{refusals_called}
 use Rattle.lsp_explain.proofs.notes.refusals.Refusals.note_event.Goals as goal
 
@@ -9,7 +11,9 @@ use Rattle.lsp_explain.proofs.notes.refusals.Refusals.note_event.Goals as goal
 pub returns-in_default : goal.returns-in_default
 returns-in_default c = on_ok_weaker c.note_message.result
     (λ noted terms before h trail are seen kept.
-    noted terms before h trail are seen kept c.in_default.is) c.note_message.ensures
+    noted terms before h trail are seen.stood kept
+    (subst (λ (w : Raw). IsNoted w h.note) seen.is seen.noted) seen.spoken
+    (sym seen.says ∙ ap (option_map call_view) c.in_default.is)) c.note_message.ensures
 
 pub returns : goal.returns
 returns c = λ terms before h trail are seen kept.
