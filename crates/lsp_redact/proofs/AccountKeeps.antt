@@ -1,17 +1,23 @@
 -- What the account that writes a log with its words replaced is told of an event.
 use Rattle.std.proofs.Common.{◌≡◌, ℕ, List, [], ◌∷◌, ◌++◌, Option, Some, None, refl, sym, ap, subst, ◌∙◌}
+use Rattle.std.specs.Borrow.{Bor}
 use Rattle.std.specs.Prelude.{if◌then◌else◌, is_some, not, option_map}
 use Rattle.lsp_docs.specs.Documents.{Terms}
 use Rattle.lsp_docs.specs.State as docs
+use Rattle.lsp_docs.specs.Taken.{call_view}
+use Rattle.lsp_docs.specs.declared.tried.Tried.{Tried}
 use Rattle.lsp_session.specs.Handshake.{is_empty, open_initializes}
 use Rattle.lsp_session.specs.Sent.{Sent}
 use Rattle.lsp_session.specs.State as session
 use Rattle.lsp_replay.specs.Standing.{Holds}
-use Rattle.lsp_replay.specs.Telling.{IsSeen, MaySpeak, Stood, rule_of}
+use Rattle.lsp_replay.specs.Telling.{HasFate, IsSeen, MaySpeak, kept_before, rule_of}
 use Rattle.lsp_replay.specs.Tries.{TriesCall, made_in}
+use Rattle.lsp_replay.specs.declared.seen.Fate.{Fate}
+use Rattle.lsp_replay.specs.declared.seen.Fate.TheVariants.{Offends}
 use Rattle.lsp_replay.specs.declared.seen.Seen.{Seen}
 use Rattle.lsp_replay.proofs.AllHeard.{first_after, none_is}
 use Rattle.lsp_replay.proofs.Seeing.{events-push}
+use Rattle.lsp_text.specs.Counted.{Counted}
 use Rattle.lsp_verdict.specs.Event.{Event, call_at, calls, sent_in}
 use Rattle.lsp_verdict.specs.Given.{raw_view}
 use Rattle.lsp_verdict.specs.Heard.{Heard, heard_events}
@@ -23,7 +29,7 @@ use Rattle.lsp_verdict.specs.declared.raw.Raw as lent
 use Rattle.lsp_verdict.specs.declared.raw.Raw.TheVariants as raws
 use Rattle.lsp_verdict.proofs.Offences.Offending.{all_are_kept, kept_more}
 use Rattle.lsp_redact.specs.Kept.{awaits}
-use Rattle.lsp_redact.specs.Redacting.{EndsBy, IsFaultOf}
+use Rattle.lsp_redact.specs.Redacting.{EndsBy, apart_at}
 use Rattle.lsp_verdict.specs.declared.outcome.Outcome.TheVariants.{Done, Judged}
 use Rattle.lsp_verdict.specs.declared.verdict.Verdict as code
 use Rattle.lsp_verdict.specs.Given.{verdict_view}
@@ -76,6 +82,27 @@ module _ (terms : Terms) (before : List Heard) (h : Heard) (m : session.State) (
 
     pub holds_before : Holds m d events
     holds_before = subst (Holds m d) skipped seen.stood.holds
+
+    -- the character by which its two texts stay apart
+    pub apart_here : (tried : Option (Bor (Tried Counted))) (apart : Option ℕ)
+        → s.fate ≡ Offends rule tried
+        → ((kept : List Event) (e : Event) → docs.Stands d (calls kept)
+        → option_map call_view s.call ≡ call_at kept e → offence d.terms kept e ≡ Some rule
+        → TriesCall d.terms kept (call_at kept e) rule (made_in (option_map (λ t. t.now) tried))
+        → apart ≡ apart_at d.terms kept e rule)
+        → apart ≡ apart_at terms events event rule
+    apart_here tried apart fate_is are =
+        let kept : List Event = kept_before terms before in
+        let same : kept ≡ events = all_are_kept terms events clean in
+        let by = seen.stood.by in
+        let has = subst (λ (f : Fate). HasFate terms before h f) fate_is seen.fate in
+        are kept event
+        (subst (λ (es : List Event). docs.Stands d (calls es)) (sym same) holds_before.called)
+        seen.says (ap (λ (t : Terms). offence t kept event) by ∙ has.0)
+        (subst (λ (t : Terms). TriesCall t kept (call_at kept event) rule
+        (made_in (option_map (λ t. t.now) tried))) (sym by) has.1)
+        ∙ ap (λ (t : Terms). apart_at t kept event rule) by
+        ∙ ap (λ (es : List Event). apart_at terms es event rule) same
 
 -- ---- how it ends
 

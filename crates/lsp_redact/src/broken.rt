@@ -50,10 +50,15 @@ pub(crate) fn broken_text(alloc: Global, content: &[u8], rule: u16) -> Result<St
         → Replaces content.now rule (string_bytes text)) }
 {
     if rule != rules::BAD_METHOD_PARAMS {
-        return Ok(String::from_str(alloc, broken_content(rule))?);
+        let text = String::from_str(alloc, broken_content(rule))?;
+        return Ok(text);
     }
     match read(alloc, content) {
-        Ok(message) => Ok(bare_call(alloc, &message)?.to_string(alloc)?),
+        Ok(message) => {
+            let bare = bare_call(alloc, &message)?;
+            let shown = bare.to_string(alloc)?;
+            Ok(shown)
+        }
         Err(RpcFault::Rule(_)) => Ok(String::new(alloc)),
         Err(RpcFault::Memory) => Err(lsp_rpc::Memory),
     }

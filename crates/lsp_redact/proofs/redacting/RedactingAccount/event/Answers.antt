@@ -9,7 +9,7 @@ use Rattle.lsp_verdict.specs.Placed.{Raw}
 use Rattle.lsp_redact.specs.Kept.{kept_of}
 use Rattle.lsp_redact.specs.Redacting.{AddsLast, format_by}
 use Rattle.lsp_redact.specs.View.{kept_view}
-use Rattle.lsp_redact.proofs.AccountKeeps.{holds_before, own_offence, own_reads, own_speaks}
+use Rattle.lsp_redact.proofs.AccountKeeps.{apart_here, own_reads, own_speaks}
 use Rattle.lsp_redact.proofs.AccountSteps.{fault_by, says_last, says_log, says_none}
 use Rattle.lsp_redact.proofs.redacting.RedactingAccount.event.Goals as goal
 
@@ -54,8 +54,6 @@ returns c = record {
       let events = heard_events before in
       let event = h.note.event in
       let has = subst (λ (f : Fate). HasFate terms before h f) c.in-Offends.is seen.fate in
-      let offends = own_offence terms before h _ _ _ c.args.seen.now seen stands.clean rule has.0 in
-      let held = holds_before terms before h _ _ _ c.args.seen.now seen stands.clean rule has.0 in
       let reads = own_reads terms before h _ _ _ c.args.seen.now seen stands.clean in
       let speaks = own_speaks terms before h _ _ _ c.args.seen.now seen stands.clean in
       says_last most terms before h rule (ShowsFault c.args.seen.now.raw) _
@@ -68,7 +66,9 @@ returns c = record {
       (string_bytes c.say_last.new.text) stands.kept_is
       (c.format_of.ensures ∙ ap (λ (t : Terms). format_by t.kept) seen.stood.by)
       c.new-redaction.ensures.names
-      (c.new-redaction.ensures.apart ∙ ?)
+      (c.new-redaction.ensures.apart
+      ∙ apart_here terms before h _ _ _ c.args.seen.now seen stands.clean rule has.0
+      c.in-Offends.tried c.in_ok-apart.apart c.in-Offends.is c.in_ok-apart.ensures)
       c.in_ok-say.ensures
       (subst (λ (raw : Raw). AddsLast most c.say.new.redaction c.say_last.new.redaction raw rule
       (kept_of events event) (string_bytes c.say.new.text) (string_bytes c.say_last.new.text))
