@@ -1,12 +1,12 @@
 -- The character by which two texts stay apart, as the code finds it.
 use Rattle.std.proofs.Common.{◌≡◌, ℕ, ◌+◌, ◌<◌, ◌≤◌, ◌==◌, Bool, true, List, [], ◌∷◌, ◌++◌, length, drop, get_or}
-use Rattle.std.proofs.Common.{Option, Some, None, IsUtf8, refl, sym, ap, ◌∙◌, arith, if◌then◌else◌}
+use Rattle.std.proofs.Common.{Option, Some, None, IsUtf8, refl, subst, sym, ap, ◌∙◌, arith, if◌then◌else◌}
 use Rattle.std.specs.Prelude.{chars, option_and_then}
 use Rattle.std.specs.Option.{option_or}
 use Rattle.std.specs.Str.Iter.{chars_rest, chars_steps}
 use Rattle.std.specs.declared.str.Chars.{Chars}
 use Rattle.std.proofs.lemmas.Bool.Decides.{nat_tests}
-use Rattle.std.proofs.lemmas.List.{at_drop_more}
+use Rattle.std.proofs.lemmas.List.{at_drop_more, drop_all}
 use Rattle.std.proofs.lemmas.Option.{same_Some}
 use Rattle.std.proofs.lemmas.Str.{IsUtf8-past_char, chars-nil, chars_past_char}
 use Rattle.lsp_docs.specs.Calls.{Call}
@@ -53,6 +53,23 @@ call_breaks terms kept event call rule least offends says =
 nothing_left : (xs : List ℕ) → length xs ≡ 0 → xs ≡ []
 nothing_left [] h = refl
 nothing_left (x ∷ xs) h = absurd (omega (arith, h))
+
+-- nothing came
+pub none_came : (s u : Chars) (o : Option ℕ) → ((d : ℕ) → o ≡ Some d → ⊥) → chars_steps s o u
+    → chars_steps s None u
+none_came s u None other step = step
+none_came s u (Some d) other step = absurd (other d refl)
+
+-- this came
+pub this_came : (s u : Chars) (o : Option ℕ) (d : ℕ) → o ≡ Some d → chars_steps s o u
+    → chars_steps s (Some d) u
+this_came s u o d is step = subst (λ (r : Option ℕ). chars_steps s r u) is step
+
+-- the other text is over
+pub all_same : (text other : List ℕ) (n : ℕ) → n ≡ length other
+    → first_other text (drop n other) ≡ None
+all_same text other n is =
+    ap (first_other text) (drop_all n other (omega (arith, is)))
 
 -- the first text ends here
 pub ends_here : (cs : List ℕ) (s u : Chars) (n c : ℕ) → chars_steps s None u

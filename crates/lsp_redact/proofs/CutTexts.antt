@@ -10,7 +10,7 @@ use Rattle.std.specs.Str.Iter.{chars_rest, chars_steps}
 use Rattle.std.specs.declared.str.Chars.{Chars}
 use Rattle.std.proofs.Math.Seq.{drop-append_seam, take-append_seam}
 use Rattle.std.proofs.lemmas.Bool.{and_parts, cases_eq, false≢true}
-use Rattle.std.proofs.lemmas.List.{drop_all, length-append, take_all}
+use Rattle.std.proofs.lemmas.List.{drop_all, length-append, length-drop, take_all}
 use Rattle.std.proofs.lemmas.Str.{IsCharBoundary-at_seam, IsUtf8-append, IsUtf8-encode, IsUtf8-nil}
 use Rattle.std.proofs.lemmas.Str.{IsUtf8-past_char, chars-append, chars-encodes, chars-nil}
 use Rattle.std.proofs.lemmas.Str.{chars_past_char, encodes-chars, scalars-chars}
@@ -220,6 +220,18 @@ front_at text s u most r utf8 starts ran =
     let same : most - 1 ≡ max most 1 - 1 = omega arith in
     front_by text s u (max most 1) r utf8 one starts
     (subst (λ (k : ℕ). SkipsThenYields chars_steps s k r u) same ran)
+
+-- the two parts of a text that is cut there
+pub cut_at : (text : List ℕ) (most at : ℕ) → IsFront text most at → (front back : List ℕ)
+    → front ≡ take at text → back ≡ drop at text
+    → (chars front ≡ take most (chars text)) × (chars back ≡ drop most (chars text))
+    × (IsUtf8 front × IsUtf8 back) × (0 < length text → length back < length text)
+cut_at text most at is front back first last = (
+  ap chars first ∙ is.front,
+  ap chars last ∙ is.back,
+  (subst IsUtf8 (sym first) is.front_utf8, subst IsUtf8 (sym last) is.back_utf8),
+  λ long. omega (arith, long, is.some long, is.within, ap length last, length-drop at text),
+)
 
 -- the last piece is cut off
 pub pieces_end : (side : Side) (most : ℕ) (written all : List ℕ) (rest : List ℕ) → rest ≡ []

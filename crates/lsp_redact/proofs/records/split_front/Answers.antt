@@ -1,20 +1,35 @@
-use Rattle.std.proofs.Common.{◌≡◌, ◌-◌, ℕ, ap, subst, sym, ◌∙◌, arith, length, max}
+use Rattle.std.proofs.Common.{◌≡◌, ◌-◌, ℕ, ap, subst, sym, ◌∙◌, drop, length, max, take}
 use Rattle.std.specs.Iterator.{SkipsThenYields}
 use Rattle.std.specs.Str.{IsCharBoundary}
 use Rattle.std.specs.Str.Iter.{chars_rest, chars_steps}
-use Rattle.lsp_redact.proofs.CutTexts.{IsFront, front_at}
+use Rattle.lsp_redact.proofs.CutTexts.{IsFront, cut_at, front_at}
 use Rattle.lsp_redact.proofs.records.split_front.Goals as goal
 
 pub split_at-requires : goal.split_at-requires
 split_at-requires c =
     let text = c.args.text.now in
-    let s = c.chars-rest.result in
     let u = c.nth.new.self in
     let front : IsFront text (max c.args.most 1) (length text - length (chars_rest u)) =
-    front_at text s u c.args.most c.nth.result c.utf8.text c.chars-rest.ensures.rest
-    (subst (λ (k : ℕ). SkipsThenYields chars_steps s k c.nth.result u) c.saturating_sub.ensures
-    c.nth.ensures.ran) in
-    ?
+    front_at text c.chars-rest.result u c.args.most c.nth.result c.utf8.text
+    c.chars-rest.ensures.rest
+    (subst (λ (k : ℕ). SkipsThenYields chars_steps c.chars-rest.result k c.nth.result u)
+    c.saturating_sub.ensures c.nth.ensures.ran) in
+    subst (IsCharBoundary text) (cc (c.as_str.ensures.value, c.len.ensures, c.len-2.ensures))
+    front.boundary
 
 pub returns : goal.returns
-returns c = ?
+returns c =
+    let text = c.args.text.now in
+    let u = c.nth.new.self in
+    let front : IsFront text (max c.args.most 1) (length text - length (chars_rest u)) =
+    front_at text c.chars-rest.result u c.args.most c.nth.result c.utf8.text
+    c.chars-rest.ensures.rest
+    (subst (λ (k : ℕ). SkipsThenYields chars_steps c.chars-rest.result k c.nth.result u)
+    c.saturating_sub.ensures c.nth.ensures.ran) in
+    let at : length text - length (chars_rest u) ≡ length text - c.rest-len.left =
+    cc (c.as_str.ensures.value, c.len.ensures) in
+    let cut = cut_at text (max c.args.most 1) _ front c.split_at.result.0.now
+    c.split_at.result.1.now
+    (c.split_at.ensures.front ∙ ap (λ n. take n text) (sym at))
+    (c.split_at.ensures.back ∙ ap (λ n. drop n text) (sym at)) in
+    record { front = cut.0; back = cut.1; utf8 = cut.2; less = cut.3 }
