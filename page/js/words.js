@@ -167,7 +167,8 @@ function noteOn(words) {
 function pastEnd([line, column, what, count, ...by]) {
   const end = what === "lines" ? `the text has ${count} lines` :
     `that line is ${count} units long, without its line end`;
-  return [...shownEvent(by), ` changes a range at ${shownPlace(line, column)}, past the end: ${end}`];
+  const place = shownPlace(line, column);
+  return [...shownEvent(by), ` changes a range at ${place}, past the end: ${end}`];
 }
 
 // A note on a change whose rangeLength is not the length of its range.
