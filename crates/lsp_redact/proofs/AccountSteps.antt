@@ -1,37 +1,35 @@
 -- The steps of the account that writes a log with its words replaced.
 use Rattle.std.proofs.Common.{◌≡◌, ℕ, ◌+◌, ◌<◌, ◌^◌, Bool, true, false, List, [], ◌∷◌, ◌++◌, length, map}
-use Rattle.std.proofs.Common.{Option, Some, None, refl, sym, ap, subst, ◌∙◌, append_assoc, append-nil, arith}
-use Rattle.std.specs.Prelude.{◌&&◌, is_some, not, option_map, option_to_list}
+use Rattle.std.proofs.Common.{Option, Some, None, refl, sym, ap, subst, ◌∙◌, append_assoc, append-nil}
+use Rattle.std.specs.Prelude.{◌&&◌, is_some, not, option_to_list}
 use Rattle.std.specs.List.{cons_option, flat_map}
 use Rattle.std.specs.Option.{option_or}
 use Rattle.std.proofs.Math.Bool.{and-true}
 use Rattle.lsp_docs.specs.Documents.{Terms}
 use Rattle.lsp_docs.specs.State as docs
 use Rattle.lsp_frame.specs.declared.format.Format.{Format}
-use Rattle.lsp_log.specs.Log.{Record, spelling}
+use Rattle.lsp_log.specs.Log.{spelling}
 use Rattle.lsp_session.specs.State as session
 use Rattle.lsp_types.specs.declared.rules.TheConstants as rules
 use Rattle.lsp_types.specs.declared.side.Side.{Side}
 use Rattle.lsp_types.specs.declared.side.Side.TheVariants.{Editor, Server}
 use Rattle.lsp_replay.specs.LogEvents.{flaw_of}
 use Rattle.lsp_replay.specs.Run.{IsJudged, Tail}
-use Rattle.lsp_replay.specs.Standing.{Holds}
 use Rattle.lsp_replay.specs.Streams.{decoder_of, ends_inside}
-use Rattle.lsp_replay.specs.Telling.{Closes, IsEnd, Says, Stood, kept_before, no_of, rule_of}
+use Rattle.lsp_replay.specs.Telling.{Closes, IsEnd, Says, kept_before, no_of, rule_of}
 use Rattle.lsp_replay.specs.declared.log_events.End.{End}
-use Rattle.lsp_replay.specs.declared.log_events.End.TheVariants.{Bad, Sound}
 use Rattle.lsp_replay.specs.declared.log_events.LogEvents.{LogEvents}
 use Rattle.lsp_replay.specs.declared.seen.Flow.TheVariants.{GoOn, Stop}
-use Rattle.lsp_replay.proofs.AllHeard.{few_events, first_after, none_is}
+use Rattle.lsp_replay.proofs.AllHeard.{first_after, none_is}
 use Rattle.lsp_replay.proofs.PassEnds.{Boxed}
 use Rattle.lsp_replay.proofs.Seeing.{events-push}
 use Rattle.lsp_verdict.specs.Event.{Event, fault}
-use Rattle.lsp_verdict.specs.Given.{AreCounts, as_given, verdict_view}
+use Rattle.lsp_verdict.specs.Given.{as_given, verdict_view}
 use Rattle.lsp_verdict.specs.Heard.{Heard, Rests, heard_events, rest_of}
 use Rattle.lsp_verdict.specs.Offences.{rule_at}
 use Rattle.lsp_verdict.specs.Outcome.{is_rest}
 use Rattle.lsp_verdict.specs.Placed.{Raw}
-use Rattle.lsp_verdict.specs.Verdict.{Verdict, bad_log, bad_log_of, first_no, no, no_next, offence}
+use Rattle.lsp_verdict.specs.Verdict.{Verdict, bad_log_of, first_no, no, no_next}
 use Rattle.lsp_verdict.specs.Verdict as verdicts
 use Rattle.lsp_verdict.specs.declared.outcome.Outcome.{Outcome}
 use Rattle.lsp_verdict.specs.declared.outcome.Outcome.TheVariants.{Done, Judged}
@@ -48,7 +46,7 @@ use Rattle.lsp_redact.specs.Naming.{Begins, Stands, Writes}
 use Rattle.lsp_redact.specs.Records.{AreRecordsBy}
 use Rattle.lsp_redact.specs.Redacting.{AddsLast, EndsAs, EndsBy, IsFaultOf, IsLogTo, SaysOf, apart_at}
 use Rattle.lsp_redact.specs.Redacting.{fault_at, format_by, log_by, log_of, names_by, names_to}
-use Rattle.lsp_redact.specs.Redacting.{redact_run, whole_log}
+use Rattle.lsp_redact.specs.Redacting.{redact_run}
 use Rattle.lsp_redact.specs.View.{kept_view}
 use Rattle.lsp_redact.specs.declared.redacting.Redacting.{Redacting}
 use Rattle.lsp_redact.specs.declared.redaction.Redaction.{Redaction}

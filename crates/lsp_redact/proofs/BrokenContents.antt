@@ -1,7 +1,7 @@
 -- What stands for a content that is no message breaks the rule that the content broke.
 use Rattle.std.proofs.Common.{◌≡◌, ℕ, Bool, true, false, List, [], ◌∷◌, Option, Some, None, IsUtf8, inl, inr}
 use Rattle.std.proofs.Common.{refl, sym, ap, subst, ◌∙◌, ◌<◌, ◌^◌, arith, pos, if◌then◌else◌}
-use Rattle.std.specs.Prelude.{codes, not}
+use Rattle.std.specs.Prelude.{not}
 use Rattle.std.specs.Float.Numeral.{scan_numeral}
 use Rattle.std.specs.List.{AllByRecursion}
 use Rattle.std.specs.Str.{bytes_eq, chars}
@@ -13,7 +13,7 @@ use Rattle.json.specs.Text.{content}
 use Rattle.json.specs.Word.{after_number, word}
 use Rattle.json.proofs.Printed.Utf8.{IsUtf8-are_ascii, are_ascii}
 use Rattle.serde_json.specs.Data.{Data}
-use Rattle.serde_json.specs.Read.{number_of, read}
+use Rattle.serde_json.specs.Read.{number_of}
 use Rattle.serde_json.specs.Written.{compact_text}
 use Rattle.lsp_rpc.specs.Act.{Act, Text, other}
 use Rattle.lsp_rpc.specs.Ident as ident
@@ -21,12 +21,12 @@ use Rattle.lsp_rpc.specs.Message as spoken
 use Rattle.lsp_rpc.specs.Message.{Message}
 use Rattle.lsp_rpc.specs.Params.{HasBadParams, IsRefused, Row, act_at, act_by, means, notifications, reads}
 use Rattle.lsp_rpc.specs.Params.{requests}
-use Rattle.lsp_rpc.specs.Reading.{BreaksRule, IsJson, Reads, broken_rule, least_broken, parts_of, rules_on}
+use Rattle.lsp_rpc.specs.Reading.{BreaksRule, broken_rule, least_broken, parts_of, rules_on}
 use Rattle.lsp_rpc.specs.Shape.{is_object}
 use Rattle.lsp_types.specs.declared.rules.TheConstants as rules
 use Rattle.lsp_types.specs.declared.side.Side.{Side}
 use Rattle.lsp_types.specs.declared.side.Side.TheVariants.{Editor, Server}
-use Rattle.lsp_verdict.proofs.Below.{not_both, one_message}
+use Rattle.lsp_verdict.proofs.Below.{one_message}
 use Rattle.lsp_redact.specs.Broken.{Replaces, bare_call, broken_content}
 use Rattle.lsp_redact.specs.Kept as kept
 use Rattle.lsp_redact.proofs.ReadMessages.{message_read}

@@ -20,9 +20,9 @@ use Rattle.lsp_rpc.specs.Message as spoken
 use Rattle.lsp_rpc.specs.Message.{Message}
 use Rattle.lsp_rpc.specs.Reading.{Parts, Reads, call, code_of, message_in, parts_of, reply_in}
 use Rattle.lsp_rpc.specs.Results.{picked_at}
-use Rattle.lsp_rpc.specs.Shape.{as_id, as_integer, holds_of, is_string, member, unless_null}
+use Rattle.lsp_rpc.specs.Shape.{as_id, holds_of, is_string, member, unless_null}
 use Rattle.lsp_redact.specs.Characters.{shown_bytes}
-use Rattle.lsp_redact.specs.Kept.{Head, head_of, picks_of}
+use Rattle.lsp_redact.specs.Kept.{head_of, picks_of}
 use Rattle.lsp_redact.specs.Names.{Names, is_encoding, is_known, known_encodings, known_methods, number_of}
 use Rattle.lsp_redact.specs.Names.{shown_encoding, shown_id, shown_method, shown_uri}
 use Rattle.lsp_redact.specs.Shown.{shown_act, shown_change, shown_head, shown_reply}

@@ -1,8 +1,8 @@
 -- Two texts that differ are shown by two that do.
-use Rattle.std.proofs.Common.{◌≡◌, ℕ, Bool, true, false, List, [], ◌∷◌, map, refl, sym, ap, ◌∙◌, arith}
-use Rattle.std.proofs.Common.{Option, Some, None, cond, eqb, eq-eqb, inl, inr}
+use Rattle.std.proofs.Common.{◌≡◌, ℕ, Bool, true, false, List, [], ◌∷◌, refl, sym, ap, ◌∙◌, arith}
+use Rattle.std.proofs.Common.{Option, Some, cond, eqb, eq-eqb, inl, inr}
 use Rattle.std.proofs.lemmas.Bool.{cases_eq, ne_eqb}
-use Rattle.lsp_redact.specs.Characters.{first_other, is_apart, kind_of, one_of, shown_as, shown_by}
+use Rattle.lsp_redact.specs.Characters.{first_other, kind_of, one_of, shown_as, shown_by}
 use Rattle.lsp_redact.specs.Characters.{shown_text}
 use Rattle.lsp_redact.specs.declared.characters.Kind.{Kind}
 use Rattle.lsp_redact.specs.declared.characters.Kind.TheVariants.{Small, Capital, Digit, Other}

@@ -4,7 +4,6 @@ use Rattle.std.specs.Prelude.{codes}
 use Rattle.serde_json.specs.Data.{Data, Members, member, no_members, put, string}
 use Rattle.lsp_rpc.specs.Act.{Text}
 use Rattle.lsp_redact.specs.Messages.{answer_members, call_members, member_if, put_if, version_data}
-use Rattle.lsp_redact.specs.Messages.{version_member}
 
 -- ---- in the order of their names
 

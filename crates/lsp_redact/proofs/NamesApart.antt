@@ -1,10 +1,9 @@
 -- Maps of all names that keep them apart, and show those of a log as they are shown.
 use Rattle.std.proofs.Common.{◌≡◌, ◌⊎◌, ℕ, suc, ◌+◌, ◌<◌, ◌≤◌, ◌^◌, Bool, true, false, cond, List, []}
 use Rattle.std.proofs.Common.{◌∷◌, ◌++◌, length, filter, get_or, refl, sym, ap, ◌∙◌, true≢false, arith}
-use Rattle.std.proofs.Common.{decimal, Option, Some, None, map, inl, inr}
+use Rattle.std.proofs.Common.{decimal, None, inl, inr}
 use Rattle.std.specs.Prelude.{codes, not, ◌||◌}
 use Rattle.std.specs.List.{list_any, prefix_len}
-use Rattle.std.specs.Option.{option_map}
 use Rattle.std.specs.Str.{bytes_eq}
 use Rattle.std.proofs.lemmas.Bool.{cases_Bool, or_parts}
 use Rattle.std.proofs.lemmas.Fmt.{decimal_injective, first_decimal}
@@ -14,9 +13,9 @@ use Rattle.lsp_rpc.specs.Act.{Text}
 use Rattle.lsp_rpc.specs.Ident as ident
 use Rattle.lsp_rpc.specs.Ident.{Ident, same_id}
 use Rattle.lsp_session.specs.Negotiation.{encoding_named}
-use Rattle.lsp_redact.specs.Names.{Names, distinct, is_encoding, known_encodings, number_of}
-use Rattle.lsp_redact.specs.Names.{shown_encoding, shown_id, shown_uri}
-use Rattle.lsp_redact.proofs.Numbering.{any-distinct, is_among, other_than, same_itself}
+use Rattle.lsp_redact.specs.Names.{Names, distinct, is_encoding, number_of}
+use Rattle.lsp_redact.specs.Names.{shown_uri}
+use Rattle.lsp_redact.proofs.Numbering.{any-distinct, is_among, other_than}
 use Rattle.lsp_redact.proofs.RenamedRequests.{KeepsIds}
 use Rattle.lsp_redact.proofs.RenamedSessions.{KeepsEncodings}
 

@@ -1,6 +1,6 @@
 -- The numbers of names: what they are with one more name.
 use Rattle.std.proofs.Common.{◌≡◌, ℕ, ◌+◌, ◌<◌, Bool, true, false, cond, List, [], ◌∷◌, ◌++◌, map, length}
-use Rattle.std.proofs.Common.{filter, refl, sym, ap, subst, ◌∙◌, Option, Some, None, true≢false, get_or}
+use Rattle.std.proofs.Common.{filter, refl, sym, ap, subst, ◌∙◌, Some, None, true≢false, get_or}
 use Rattle.std.proofs.Common.{append-nil, arith, String, Global, string_bytes, inl, inr, length-append}
 use Rattle.std.proofs.Common.{◌⊎◌, ◌≤◌, suc}
 use Rattle.std.specs.Prelude.{not, ◌||◌}

@@ -1,6 +1,6 @@
 -- What is written of a message means on its side what it meant, shown.
 use Rattle.std.proofs.Common.{◌≡◌, ℕ, ℤ, pos, negsuc, ◌^◌, ◌<◌, Bool, true, false, cond, List, [], ◌∷◌, ◌++◌}
-use Rattle.std.proofs.Common.{map, Option, Some, None, refl, sym, ap, subst, ◌∙◌, true≢false, decimal}
+use Rattle.std.proofs.Common.{Option, Some, None, refl, sym, ap, subst, ◌∙◌, true≢false, decimal}
 use Rattle.std.proofs.Common.{inl, inr}
 use Rattle.std.specs.Prelude.{codes}
 use Rattle.std.specs.List.{AllByRecursion}
@@ -15,12 +15,11 @@ use Rattle.lsp_rpc.specs.Act.{early, exit, initialize, initialized, other, progr
 use Rattle.lsp_rpc.specs.Ident as ident
 use Rattle.lsp_rpc.specs.Ident.{Ident}
 use Rattle.lsp_rpc.specs.Message as spoken
-use Rattle.lsp_rpc.specs.Message.{Message}
 use Rattle.lsp_rpc.specs.Params.{Row, act_at, act_by, all_of, all_three, allowed, array_of, as_uinteger}
 use Rattle.lsp_rpc.specs.Params.{both, cancel_at, change_at, did_change_at, did_close_at, did_open_at}
-use Rattle.lsp_rpc.specs.Params.{did_save_at, editor_notifications, editor_requests, if_given, initialize_at}
+use Rattle.lsp_rpc.specs.Params.{did_save_at, if_given, initialize_at}
 use Rattle.lsp_rpc.specs.Params.{natural, notifications, offer_at, offered_encodings, position_at, progress_at}
-use Rattle.lsp_rpc.specs.Params.{register_at, required, requests, server_notifications, server_requests}
+use Rattle.lsp_rpc.specs.Params.{register_at, required, requests}
 use Rattle.lsp_rpc.specs.Params.{given, range_length_at, span_at, text_at, uri_at, version_at}
 use Rattle.lsp_rpc.specs.Shape.{as_id, as_integer, member}
 use Rattle.lsp_types.specs.declared.position.Position.{Position}
@@ -32,7 +31,7 @@ use Rattle.lsp_redact.specs.Names.{Names, is_known, number_of, shown_method}
 use Rattle.lsp_redact.specs.Shown.{shown_act}
 use Rattle.lsp_redact.proofs.ReadMessages.{IsSmall, small_of}
 use Rattle.lsp_redact.proofs.ReadParams.{IsGoodAct, IsGoodPosition, IsGoodSpan, IsGoodSpanIf, IsSmallIf}
-use Rattle.lsp_redact.proofs.ReadParams.{cancel_back, did_change_back, did_close_back, did_open_back}
+use Rattle.lsp_redact.proofs.ReadParams.{cancel_back, did_change_back, did_open_back}
 use Rattle.lsp_redact.proofs.ReadParams.{did_save_back, initialize_back, progress_back, register_back}
 
 -- ---- what a shape finds

@@ -1,6 +1,6 @@
 -- What is written of a message is read back as a message with the same parts.
-use Rattle.std.proofs.Common.{◌≡◌, ℕ, ℤ, suc, pos, negsuc, ◌-◌, ◌^◌, ◌<◌, ◌≤◌, Bool, true, false, List, []}
-use Rattle.std.proofs.Common.{◌∷◌, map, Option, Some, None, IsUtf8, refl, sym, ap, subst, ◌∙◌, arith}
+use Rattle.std.proofs.Common.{◌≡◌, ℕ, ℤ, pos, negsuc, ◌-◌, ◌^◌, ◌<◌, ◌≤◌, Bool, true, false, []}
+use Rattle.std.proofs.Common.{◌∷◌, Option, Some, None, IsUtf8, refl, sym, ap, subst, ◌∙◌, arith}
 use Rattle.std.proofs.Common.{if◌then◌else◌, nat_lt}
 use Rattle.std.specs.Prelude.{codes, int_le, int_lt, nat_le, unwrap_or}
 use Rattle.std.specs.Option.{option_map, option_and_then}
@@ -17,13 +17,13 @@ use Rattle.lsp_rpc.specs.Ident as ident
 use Rattle.lsp_rpc.specs.Ident.{Ident}
 use Rattle.lsp_rpc.specs.Message as spoken
 use Rattle.lsp_rpc.specs.Message.{Message}
-use Rattle.lsp_rpc.specs.Reading.{IsMessage, Reads, broken_rule, message_in, parts_of}
+use Rattle.lsp_rpc.specs.Reading.{Reads, broken_rule, message_in, parts_of}
 use Rattle.lsp_rpc.specs.Shape.{as_id, as_integer, small}
 use Rattle.lsp_types.specs.declared.change.SyncKind.{SyncKind}
 use Rattle.lsp_types.specs.declared.change.SyncKind.TheVariants.{Nothing, Full, Incremental}
 use Rattle.lsp_redact.specs.Kept.{Head, Reply, failed, notification, nothing, picks, request, response}
 use Rattle.lsp_redact.specs.Messages.{answered_data, called_members, content_of, error_data, id_data}
-use Rattle.lsp_redact.specs.Messages.{integer, kind_number, members_of, natural, params_of, picked_data}
+use Rattle.lsp_redact.specs.Messages.{integer, kind_number, natural, params_of, picked_data}
 use Rattle.lsp_redact.specs.Messages.{response_members}
 use Rattle.lsp_redact.proofs.ReadBack.{IsWritable, is_json}
 

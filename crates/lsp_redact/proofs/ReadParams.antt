@@ -1,11 +1,11 @@
 -- What is written of the params of a message is read back.
-use Rattle.std.proofs.Common.{◌≡◌, ℕ, ℤ, suc, ◌^◌, ◌<◌, ◌≤◌, max, List, [], ◌∷◌, map, Option, Some, None}
-use Rattle.std.proofs.Common.{IsUtf8, refl, sym, ap, ◌∙◌, arith}
+use Rattle.std.proofs.Common.{◌≡◌, ℕ, ℤ, ◌^◌, ◌<◌, ◌≤◌, List, [], ◌∷◌, map, Option, Some, None}
+use Rattle.std.proofs.Common.{IsUtf8, refl, ap, ◌∙◌, arith}
 use Rattle.std.specs.Prelude.{codes}
 use Rattle.std.specs.List.{AllByRecursion}
 use Rattle.std.specs.Option.{option_map, option_and_then}
 use Rattle.json.proofs.Printed.Utf8.{IsUtf8-are_ascii}
-use Rattle.serde_json.specs.Data.{Data, Items, Members, depth, items_depth, object}
+use Rattle.serde_json.specs.Data.{Data, depth, items_depth}
 use Rattle.serde_json.specs.Find.{as_str}
 use Rattle.serde_json.specs.View.{items_of}
 use Rattle.lsp_rpc.specs.Act.{Act, Change, Offer, Text, cancel, did_change, did_close, did_open, did_save}
@@ -15,10 +15,10 @@ use Rattle.lsp_rpc.specs.Ident.{Ident}
 use Rattle.lsp_rpc.specs.Params.{all_of, both, cancel_at, change_at, did_change_at, did_close_at}
 use Rattle.lsp_rpc.specs.Params.{did_open_at, did_save_at, initialize_at, position_at, progress_at}
 use Rattle.lsp_rpc.specs.Params.{register_at, required, span_at}
-use Rattle.lsp_rpc.specs.Shape.{as_id, as_integer, unless_null}
+use Rattle.lsp_rpc.specs.Shape.{unless_null}
 use Rattle.lsp_types.specs.declared.position.Position.{Position}
 use Rattle.lsp_types.specs.declared.position.Span.{Span}
-use Rattle.lsp_redact.specs.Messages.{change_data, changed_data, closed_data, id_data, integer, list}
+use Rattle.lsp_redact.specs.Messages.{change_data, changed_data, closed_data, id_data, integer}
 use Rattle.lsp_redact.specs.Messages.{offer_data, opened_data, params_of, position_data, registered_data}
 use Rattle.lsp_redact.specs.Messages.{registration_data, saved_data, span_data, text_data}
 use Rattle.lsp_redact.proofs.ReadBack.{AreWritable, IsWritable}

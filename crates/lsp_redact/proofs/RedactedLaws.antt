@@ -24,7 +24,7 @@ use Rattle.lsp_replay.proofs.FirstEvents.{some_heard, some_rests}
 use Rattle.lsp_verdict.specs.Event.{Event, fault, message, snapshot}
 use Rattle.lsp_verdict.specs.Given.{verdict_view}
 use Rattle.lsp_verdict.specs.Heard.{Heard, Rests, heard_events, notes_of, raws_of}
-use Rattle.lsp_verdict.specs.Offences.{IsNoted, Noted}
+use Rattle.lsp_verdict.specs.Offences.{IsNoted}
 use Rattle.lsp_verdict.specs.Outcome.{is_rest, log_terms}
 use Rattle.lsp_verdict.specs.Placed.{Placed, Raw, Reads, broken, content, joined, show}
 use Rattle.lsp_verdict.specs.Verdict.{Verdict, bad_log, bad_log_of, belongs_to, count_of, no, no_by}
@@ -43,15 +43,14 @@ use Rattle.lsp_verdict.proofs.Sessions.{some_placed}
 use Rattle.lsp_verdict.proofs.Verdicts.{IsRefusal}
 use Rattle.lsp_redact.specs.Broken.{Replaces, bare_call, broken_content}
 use Rattle.lsp_redact.specs.Kept.{Kept, kept_in, kept_of}
-use Rattle.lsp_redact.specs.Laws.{HasRoom, OneRedacted, RedactedKeepsVerdict, SomeRedacted}
+use Rattle.lsp_redact.specs.Laws.{OneRedacted, RedactedKeepsVerdict, SomeRedacted}
 use Rattle.lsp_redact.specs.Names.{Names}
-use Rattle.lsp_redact.specs.Records.{AreBroken, AreRecordsBy, content_records, most_of, records_of}
+use Rattle.lsp_redact.specs.Records.{AreBroken, AreRecordsBy, content_records, most_of}
 use Rattle.lsp_redact.specs.Redacting.{EndsAs, EndsBy, IsFaultOf, IsLogTo, SaysOf, apart_at, log_of}
 use Rattle.lsp_redact.specs.Redacting.{names_to, redact_run, whole_log}
-use Rattle.lsp_redact.specs.Shown.{shown_kept}
 use Rattle.lsp_redact.proofs.AccountSteps.{fault_by}
 use Rattle.lsp_redact.proofs.BrokenContents.{stands_for}
-use Rattle.lsp_redact.proofs.RedactedVerdicts.{all_clean, read_notes, yes_kept}
+use Rattle.lsp_redact.proofs.RedactedVerdicts.{all_clean, yes_kept}
 use Rattle.lsp_redact.proofs.StoppedVerdicts.{no_kept, noted_parts, some_rule}
 
 -- ---- the verdict

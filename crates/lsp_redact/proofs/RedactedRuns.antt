@@ -1,7 +1,7 @@
 -- What `redact` answers and writes follows from what a pass does.
 use Rattle.std.proofs.Common.{◌≡◌, ℕ, false, [], ◌++◌, Option, Some, None, Result, Ok, Err, refl}
 use Rattle.std.specs.Prelude.{IfOk, is_some}
-use Rattle.lsp_frame.specs.Bounds.{Bounds, IsInRange}
+use Rattle.lsp_frame.specs.Bounds.{Bounds}
 use Rattle.lsp_replay.specs.Run.{PartPassed, Passes, IsPassed}
 use Rattle.lsp_replay.specs.Telling.{rule_of}
 use Rattle.lsp_replay.proofs.PassEnds.{IsQuiet, cut_whole, part_within, silent_after}

@@ -1,12 +1,12 @@
 -- A log none of whose events offends: what `redact` writes of it has the same verdict, up to names.
-use Rattle.std.proofs.Common.{◌≡◌, ℕ, ◌+◌, ◌*◌, ◌≤◌, Bool, true, false, List, [], ◌∷◌, ◌++◌, length, Option}
+use Rattle.std.proofs.Common.{◌≡◌, ℕ, ◌+◌, ◌*◌, ◌≤◌, true, false, List, [], ◌∷◌, ◌++◌, length, Option}
 use Rattle.std.proofs.Common.{Some, None, refl, sym, ap, subst, ◌∙◌, append_assoc, append-nil, arith, map}
 use Rattle.std.specs.List.{AllZip, flat_map}
 use Rattle.std.specs.Option.{option_or}
 use Rattle.std.specs.Prelude.{is_some, unwrap_or}
 use Rattle.std.proofs.lemmas.Bool.{false≢true}
 use Rattle.std.proofs.lemmas.List.{length-append}
-use Rattle.lsp_docs.specs.Documents.{Terms, terms_of}
+use Rattle.lsp_docs.specs.Documents.{Terms}
 use Rattle.lsp_extract.specs.Normal.{IsOnEvents}
 use Rattle.lsp_extract.proofs.Forming.Again.{log_fits, placed_sane}
 use Rattle.lsp_frame.specs.Bounds.{Bounds, IsInRange}
@@ -24,7 +24,7 @@ use Rattle.lsp_verdict.specs.Placed.{Raw, Reads}
 use Rattle.lsp_verdict.specs.Verdict.{Verdict, bad_log_of, first_no, rest_of, summary, verdict, yes}
 use Rattle.lsp_verdict.specs.declared.outcome.Outcome.{Outcome}
 use Rattle.lsp_verdict.proofs.Logs.{one_verdict}
-use Rattle.lsp_redact.specs.Kept.{Kept, kept_in}
+use Rattle.lsp_redact.specs.Kept.{kept_in}
 use Rattle.lsp_redact.specs.Laws.{shown_verdict}
 use Rattle.lsp_redact.specs.Names.{Names, names_in}
 use Rattle.lsp_redact.specs.Records.{records_of}

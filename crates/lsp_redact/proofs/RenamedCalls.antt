@@ -2,15 +2,13 @@
 -- one, and the characters of their texts by others that keep what rules read of them.
 use Rattle.std.proofs.Common.{◌≡◌, ℕ, ℤ, ◌+◌, ◌-◌, Bool, true, false, cond, List, [], ◌∷◌, ◌++◌, map}
 use Rattle.std.proofs.Common.{length, drop, refl, sym, ap, ◌∙◌, Option, Some, None, Result, Ok, Err}
-use Rattle.std.specs.Prelude.{not, ◌&&◌, ◌||◌, int_lt, option_to_list, filter}
+use Rattle.std.specs.Prelude.{not, ◌&&◌, ◌||◌, option_to_list}
 use Rattle.std.specs.List.{list_any}
 use Rattle.std.specs.Option.{option_map, option_or}
 use Rattle.std.specs.Ordering.{int_eq}
 use Rattle.std.specs.Str.{bytes_eq}
 use Rattle.std.proofs.lemmas.List.{drop-map, map-append, length-map}
-use Rattle.lsp_types.specs.declared.position.Encoding.{Encoding}
-use Rattle.lsp_types.specs.declared.change.SyncKind.{SyncKind}
-use Rattle.lsp_text.specs.Edits.{Edit, applied}
+use Rattle.lsp_text.specs.Edits.{applied}
 use Rattle.lsp_docs.specs.Calls.{Bytes, Call, Text, opens, changes, closes, saves, shows}
 use Rattle.lsp_docs.specs.Calls.{is_change, is_close}
 use Rattle.lsp_docs.specs.Documents.{Held, Terms, Version, as_held, documents, held, held_entry}

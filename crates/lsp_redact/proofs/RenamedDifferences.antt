@@ -2,7 +2,7 @@
 -- the two texts do.
 use Rattle.std.proofs.Common.{◌≡◌, ℕ, ℤ, Bool, true, false, cond, List, [], ◌∷◌, ◌++◌, map, refl, sym}
 use Rattle.std.proofs.Common.{ap, ◌∙◌, Option, Some, None, Result, Ok, Err, true≢false, filter, inl, inr}
-use Rattle.std.specs.Prelude.{not, ◌&&◌, ◌||◌, int_lt, is_some, nat_lt, option_to_list}
+use Rattle.std.specs.Prelude.{not, ◌&&◌, ◌||◌, int_lt, is_some, nat_lt}
 use Rattle.std.specs.List.{find, list_any, list_all}
 use Rattle.std.specs.Option.{option_map, option_and_then}
 use Rattle.std.specs.Ordering.{int_eq}

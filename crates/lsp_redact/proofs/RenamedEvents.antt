@@ -1,15 +1,14 @@
 -- Which event offends, and the result of a session, stay where names and characters are replaced.
 use Rattle.std.proofs.Common.{◌≡◌, ℕ, ◌+◌, Bool, true, false, cond, List, [], ◌∷◌, ◌++◌, map, length, filter}
 use Rattle.std.proofs.Common.{refl, sym, ap, ◌∙◌, Option, Some, None, suc}
-use Rattle.std.specs.Prelude.{not, ◌||◌, chars, is_some, option_and_then, unwrap_or}
-use Rattle.std.specs.List.{cons_option, filter_map, list_any}
+use Rattle.std.specs.Prelude.{◌||◌, chars, option_and_then, unwrap_or}
+use Rattle.std.specs.List.{cons_option, list_any}
 use Rattle.std.specs.Option.{option_map, option_or}
-use Rattle.std.specs.Str.{bytes_eq}
 use Rattle.std.proofs.lemmas.List.{length-map, map-append}
 use Rattle.serde_json.specs.Data.{Data}
-use Rattle.lsp_rpc.specs.Act.{Act, Change, Offer, Text, cancel, did_change, did_close, did_open, did_save}
+use Rattle.lsp_rpc.specs.Act.{Act, Change, Text, cancel, did_change, did_close, did_open, did_save}
 use Rattle.lsp_rpc.specs.Act.{early, exit, initialize, initialized, other, progress, register, shutdown}
-use Rattle.lsp_rpc.specs.Ident.{Ident, same_id}
+use Rattle.lsp_rpc.specs.Ident.{Ident}
 use Rattle.lsp_types.specs.declared.change.SyncKind.{SyncKind}
 use Rattle.lsp_types.specs.declared.change.SyncKind.TheVariants.{Nothing}
 use Rattle.lsp_types.specs.declared.position.Encoding.{Encoding}
@@ -26,12 +25,12 @@ use Rattle.lsp_session.specs.Requests.{open_requests}
 use Rattle.lsp_session.specs.Rules.{rule_after}
 use Rattle.lsp_session.specs.Sent.{Sent, cancel_of, is_exit, is_initialize, is_initialized, is_shutdown}
 use Rattle.lsp_session.specs.Sent.{offer_of}
-use Rattle.lsp_docs.specs.Calls.{Bytes, Call, byte_len, changes, closes, opens, saves, shows}
+use Rattle.lsp_docs.specs.Calls.{Bytes, Call, changes, opens, saves}
 use Rattle.lsp_docs.specs.Documents.{Held, Terms, documents}
 use Rattle.lsp_docs.specs.Rules.{call_rule}
 use Rattle.lsp_docs.specs.Snapshots.{unmatched}
 use Rattle.lsp_verdict.specs.Event.{Event, call_at, call_of, calls, edit_of, fault, message, sent_in}
-use Rattle.lsp_verdict.specs.Event.{sent_of, snapshot}
+use Rattle.lsp_verdict.specs.Event.{snapshot}
 use Rattle.lsp_verdict.specs.LookBack.{each_from, first_from}
 use Rattle.lsp_verdict.specs.Verdict.{Document, Summary, belongs_to, count_of, document_of, document_rule}
 use Rattle.lsp_verdict.specs.Verdict.{first_no, is_of, is_snapshot, no_at, no_by, no_next, offence, open_of}
@@ -39,7 +38,7 @@ use Rattle.lsp_verdict.specs.Verdict.{Verdict, no, summary, whose}
 use Rattle.lsp_verdict.specs.declared.verdict.Who.{Who}
 use Rattle.lsp_verdict.specs.declared.verdict.Who.TheVariants as who
 use Rattle.lsp_redact.proofs.RenamedCalls.{KeepsNames, call_by, documents-by, held_by, unmatched-by}
-use Rattle.lsp_redact.proofs.RenamedRequests.{KeepsCancels, KeepsIds, entry_by, open_requests-by}
+use Rattle.lsp_redact.proofs.RenamedRequests.{KeepsIds, entry_by, open_requests-by}
 use Rattle.lsp_redact.proofs.RenamedRules.{Stays, call_rule-by, is_text}
 use Rattle.lsp_redact.proofs.RenamedSessions.{KeepsActs, KeepsEncodings, KeepsPicks, encoding-by}
 use Rattle.lsp_redact.proofs.RenamedSessions.{offer_by, opened_by, rule_after-by, sent_as, sync_kind-by}

@@ -6,7 +6,6 @@ use Rattle.std.specs.Prelude.{not, ◌&&◌, ◌||◌, int_lt, is_some, is_none,
 use Rattle.std.specs.List.{list_any, list_all}
 use Rattle.std.specs.Option.{option_map}
 use Rattle.std.specs.Ordering.{int_eq}
-use Rattle.std.specs.Str.{bytes_eq}
 use Rattle.std.proofs.lemmas.Bool.{and_cases, and_left, and_right, or_parts}
 use Rattle.std.proofs.lemmas.Slice.Eq.{bytes_eq-Decides}
 use Rattle.std.proofs.Common.{inl, inr}
@@ -21,8 +20,8 @@ use Rattle.lsp_text.specs.SameText.{compared, same_text}
 use Rattle.lsp_docs.specs.Calls.{Bytes, Call, Text, byte_len, opens, changes, closes, saves, shows}
 use Rattle.lsp_docs.specs.Calls.{uri_of}
 use Rattle.lsp_docs.specs.Documents.{Terms, Version, held, is_after, versioned}
-use Rattle.lsp_docs.specs.Rules.{call_rule, change_rule, differs, first_row, fits_kind, rule_of}
-use Rattle.lsp_docs.specs.Rules.{rule_of_change, save_rule, show_rule, text_rule, version_rule}
+use Rattle.lsp_docs.specs.Rules.{call_rule, change_rule, differs, fits_kind, rule_of}
+use Rattle.lsp_docs.specs.Rules.{save_rule, show_rule, text_rule, version_rule}
 use Rattle.lsp_docs.specs.Snapshots.{Shown, is_of, kept, versions_of, waiting}
 use Rattle.lsp_facts.specs.TwoTexts.{is_of_texts}
 use Rattle.lsp_redact.proofs.RenamedCalls.{KeepsNames, call_by, held-by, kept-by, shown_by}

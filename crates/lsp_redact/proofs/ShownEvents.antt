@@ -28,14 +28,14 @@ use Rattle.lsp_verdict.specs.Event.{Event, fault, message, sent_in, snapshot}
 use Rattle.lsp_verdict.specs.Placed.{Raw, Reads, broken, content, show}
 use Rattle.lsp_redact.specs.Characters.{shown_as, shown_bytes}
 use Rattle.lsp_redact.specs.Kept as kept
-use Rattle.lsp_redact.specs.Kept.{Head, Kept, Reply, awaits, head_of, kept_of, picks_of, reply_of}
+use Rattle.lsp_redact.specs.Kept.{Head, Kept, awaits, head_of, kept_of, picks_of}
 use Rattle.lsp_redact.specs.Messages.{picked_data}
-use Rattle.lsp_redact.specs.Names.{Names, act_names, encoding_names, given_names, head_names, id_names}
+use Rattle.lsp_redact.specs.Names.{Names, act_names, given_names, head_names, id_names}
 use Rattle.lsp_redact.specs.Names.{is_encoding, joined, meant_names, message_names, names_in, names_of}
 use Rattle.lsp_redact.specs.Names.{number_of, offer_names, offered_names, reply_names}
 use Rattle.lsp_redact.specs.Names.{shown_encoding, shown_id, shown_method, shown_uri, uri_names}
 use Rattle.lsp_redact.specs.Shown.{shown_act, shown_change, shown_head, shown_kept, shown_offer}
-use Rattle.lsp_redact.specs.Shown.{shown_picked, shown_reply}
+use Rattle.lsp_redact.specs.Shown.{shown_reply}
 use Rattle.lsp_redact.proofs.LikeEvents.{IsLike, IsLikeSent, event_left, like_params, read_of, sent_left}
 use Rattle.lsp_redact.proofs.NamesApart.{encoding_by, id_by, ids_apart, keeps_encodings, mapped}
 use Rattle.lsp_redact.proofs.NamesApart.{mapped_apart, mapped_shown, uris_apart}

@@ -1,7 +1,7 @@
 -- What is shown of lists, one item after another.
-use Rattle.std.proofs.Common.{◌≡◌, ℕ, ◌+◌, ◌<◌, Bool, true, false, cond, List, [], ◌∷◌, ◌++◌, map, length, take}
-use Rattle.std.proofs.Common.{filter, get_or, Option, Some, None, option_map, String, Global, string_bytes}
-use Rattle.std.proofs.Common.{refl, sym, ap, subst, ◌∙◌, append-nil}
+use Rattle.std.proofs.Common.{◌≡◌, ℕ, ◌+◌, ◌<◌, List, [], ◌∷◌, ◌++◌, map, length, take}
+use Rattle.std.proofs.Common.{get_or, Option, Some, None, option_map, String, Global, string_bytes}
+use Rattle.std.proofs.Common.{refl, sym, ap, subst, ◌∙◌}
 use Rattle.std.specs.Borrow.{Bor}
 use Rattle.std.specs.Option.{option_copied}
 use Rattle.std.specs.Prelude.{not}

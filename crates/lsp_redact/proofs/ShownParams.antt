@@ -1,5 +1,5 @@
 -- What is written of what a message means, where little or nothing is.
-use Rattle.std.proofs.Common.{◌≡◌, ℕ, Option, None, sym, subst, refl}
+use Rattle.std.proofs.Common.{◌≡◌, Option, None, sym, subst, refl}
 use Rattle.serde_json.specs.Data.{Data}
 use Rattle.lsp_rpc.specs.Act.{Act, other}
 use Rattle.lsp_rpc.specs.View.{act_view}

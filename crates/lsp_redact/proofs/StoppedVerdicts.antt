@@ -1,5 +1,5 @@
 -- A log at one of whose events `redact` stops: what it writes has the same verdict.
-use Rattle.std.proofs.Common.{◌≡◌, ℕ, ◌+◌, ◌*◌, ◌≤◌, Bool, true, false, List, [], ◌∷◌, ◌++◌, length, map, Option}
+use Rattle.std.proofs.Common.{◌≡◌, ℕ, ◌+◌, ◌*◌, ◌≤◌, true, false, List, [], ◌∷◌, ◌++◌, length, map, Option}
 use Rattle.std.proofs.Common.{Some, None, IsUtf8, refl, sym, ap, subst, ◌∙◌, append_assoc, append-nil, arith}
 use Rattle.std.specs.List.{AllByRecursion, AllZip, flat_map}
 use Rattle.std.specs.Option.{option_or}
@@ -20,7 +20,7 @@ use Rattle.lsp_replay.specs.Telling.{rule_of}
 use Rattle.lsp_replay.proofs.Seeing.{events-join}
 use Rattle.lsp_verdict.specs.Event.{Event, fault, message, snapshot}
 use Rattle.lsp_verdict.specs.Heard.{Heard, heard_events, notes_of, raws_of}
-use Rattle.lsp_verdict.specs.Offences.{IsNoted, Noted}
+use Rattle.lsp_verdict.specs.Offences.{IsNoted}
 use Rattle.lsp_verdict.specs.Outcome.{IsVerdict, ending, format_or_one, log_terms}
 use Rattle.lsp_verdict.specs.Placed.{Raw, Reads, broken, content, show}
 use Rattle.lsp_verdict.specs.Verdict.{Ending, Verdict, bad_log_of, first_no, no_at, no_by, offence, rest_of}

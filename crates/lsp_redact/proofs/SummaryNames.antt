@@ -1,6 +1,6 @@
 -- The names in the result of a session are among those of its log, so each is shown by its number.
 use Rattle.std.proofs.Common.{◌≡◌, ℕ, Bool, true, false, cond, List, [], ◌∷◌, ◌++◌, map, Option, Some, None}
-use Rattle.std.proofs.Common.{refl, sym, ap, subst, ◌∙◌}
+use Rattle.std.proofs.Common.{refl, sym, ap, ◌∙◌}
 use Rattle.std.proofs.lemmas.List.{map-append}
 use Rattle.std.specs.List.{AllByRecursion, cons_option}
 use Rattle.lsp_docs.specs.Calls.{Bytes, Call, changes, closes, opens, saves, shows}
@@ -14,18 +14,17 @@ use Rattle.lsp_rpc.specs.Message.{Message}
 use Rattle.lsp_session.specs.Entry.{Entry}
 use Rattle.lsp_session.specs.Requests.{is_answered, is_cancelled, open_entry, open_requests}
 use Rattle.lsp_session.specs.Sent.{Sent, request_by, request_of, same_side}
-use Rattle.lsp_text.specs.Edits.{Edit}
 use Rattle.lsp_types.specs.declared.change.SyncKind.{SyncKind}
 use Rattle.lsp_types.specs.declared.position.Encoding.{Encoding}
 use Rattle.lsp_types.specs.declared.side.Side.{Side}
 use Rattle.lsp_types.specs.declared.side.Side.TheVariants.{Editor, Server}
 use Rattle.lsp_verdict.specs.Event.{Event, call_at, call_of, calls, fault, message, sent_in, snapshot}
 use Rattle.lsp_verdict.specs.LookBack.{each_from}
-use Rattle.lsp_verdict.specs.Verdict.{Document, Summary, document_of, open_of, summary}
-use Rattle.lsp_redact.specs.Kept.{Kept, awaits, head_of, kept_in, kept_of}
+use Rattle.lsp_verdict.specs.Verdict.{Document, document_of, open_of, summary}
+use Rattle.lsp_redact.specs.Kept.{awaits, head_of, kept_in, kept_of}
 use Rattle.lsp_redact.specs.Laws.{shown_document, shown_entry, shown_request, shown_summary}
 use Rattle.lsp_redact.specs.Names.{Names, act_names, given_names, head_names, id_names, meant_names}
-use Rattle.lsp_redact.specs.Names.{method_names, names_of, shown_id, shown_method, shown_uri}
+use Rattle.lsp_redact.specs.Names.{method_names, shown_method}
 use Rattle.lsp_redact.proofs.NamesApart.{id_by}
 use Rattle.lsp_redact.proofs.Numbering.{is_among}
 use Rattle.lsp_redact.proofs.ShownEvents.{AreAmong, AreFew, id_shown, joined_among, meant_among}

@@ -1,6 +1,6 @@
 -- The laws of texts that are shown by other characters.
-use Rattle.std.proofs.Common.{◌≡◌, ℕ, List, map, ap, sym, ◌∙◌, Option}
-use Rattle.lsp_text.specs.SameText.{SameText, compared}
+use Rattle.std.proofs.Common.{◌≡◌, ℕ, List, ap, sym, ◌∙◌, Option}
+use Rattle.lsp_text.specs.SameText.{compared}
 use Rattle.lsp_types.specs.declared.line_ends.LineEnds.{LineEnds}
 use Rattle.lsp_redact.proofs.KeptApart.{kept_apart}
 use Rattle.lsp_redact.proofs.ShownCharacters.{keeps_texts, units-shown_text}

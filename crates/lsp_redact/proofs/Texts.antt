@@ -13,13 +13,13 @@ use Rattle.lsp_types.specs.declared.position.Position.{Position}
 use Rattle.lsp_types.specs.declared.position.Span.{Span}
 use Rattle.lsp_types.specs.declared.rules.TheConstants as rules
 use Rattle.lsp_text.specs.Lines.{Line, before_end, before_line, ended_line, is_feed, is_return}
-use Rattle.lsp_text.specs.Lines.{lines_of, put_before, spelled, starts_with_feed, text_of}
+use Rattle.lsp_text.specs.Lines.{lines_of, put_before, starts_with_feed, text_of}
 use Rattle.lsp_text.specs.Places.{place_at, place_in, place_in_line, place_of, units, units_of_char}
 use Rattle.lsp_text.specs.SameText.{compared, is_nothing, with_feeds, without_last_feed}
 use Rattle.lsp_types.specs.declared.line_ends.LineEnds.{LineEnds}
 use Rattle.lsp_types.specs.declared.line_ends.LineEnds.TheVariants.{Exact, Ignored}
 use Rattle.std.specs.Prelude.{◌&&◌}
-use Rattle.lsp_text.specs.Edits.{Edit, and_then, applied, changed, limited, replaced, splice, spliced}
+use Rattle.lsp_text.specs.Edits.{Edit, and_then, applied, changed, limited, splice, spliced}
 
 -- a map of characters that keeps what rules read of them
 pub record KeepsTexts (r : ℕ → ℕ) : Type 0 where

@@ -6,7 +6,7 @@ use Rattle.std.specs.List.{AllByRecursion, flat_map}
 use Rattle.std.proofs.lemmas.Grind.{flat_map-append}
 use Rattle.std.proofs.lemmas.List.{length-append, length-drop, take-append-drop}
 use Rattle.std.proofs.lemmas.Str.{IsUtf8-append, encodes-append, encodes-chars}
-use Rattle.json.proofs.Printed.Utf8.{IsUtf8-are_ascii, are_ascii}
+use Rattle.json.proofs.Printed.Utf8.{IsUtf8-are_ascii}
 use Rattle.lsp_frame.specs.Header.{blank_line}
 use Rattle.lsp_frame.specs.Sink.{canonical}
 use Rattle.lsp_log.specs.Log.{Record, chunk, head_line, head_of, spelling, with_feed}

@@ -1,6 +1,6 @@
 -- What is written is a log of its own, with a content or a snapshot for each event.
 use Rattle.std.proofs.Common.{◌≡◌, ℕ, ℤ, zero, suc, ◌*◌, ◌≤◌, List, [], ◌∷◌, ◌++◌, length, map}
-use Rattle.std.proofs.Common.{take, drop, Option, Some, None, true, refl, sym, ap, subst, ◌∙◌, append_assoc}
+use Rattle.std.proofs.Common.{take, drop, Some, None, true, refl, sym, ap, subst, ◌∙◌, append_assoc}
 use Rattle.std.proofs.Common.{append-nil, arith, IsUtf8}
 use Rattle.std.specs.Prelude.{◌&&◌, IsTrue, chars, encode_utf8_all, nat_le}
 use Rattle.std.specs.List.{AllByRecursion, flat_map}

@@ -12,7 +12,7 @@ use Rattle.lsp_types.specs.declared.position.Span.{Span}
 use Rattle.lsp_redact.specs.Kept as kept
 use Rattle.lsp_redact.specs.Kept.{Head, Reply}
 use Rattle.lsp_redact.specs.Messages.{answered_data, call_members, change_data, id_data, integer}
-use Rattle.lsp_redact.specs.Messages.{member_if, members_of, offer_data, offered_data, params_of}
+use Rattle.lsp_redact.specs.Messages.{member_if, members_of, offered_data, params_of}
 use Rattle.lsp_redact.specs.Messages.{registration_data, reply_name, span_data, text_data}
 use Rattle.lsp_redact.specs.Names.{Names}
 use Rattle.lsp_redact.specs.Shown.{shown_reply}

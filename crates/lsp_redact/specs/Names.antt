@@ -4,7 +4,7 @@ use Rattle.std.specs.Prelude.{if◌then◌else◌, Option, Some, None, codes, de
 use Rattle.std.specs.List.{list_any, prefix_len}
 use Rattle.std.specs.Str.{bytes_eq}
 use Rattle.lsp_rpc.specs.Act as act
-use Rattle.lsp_rpc.specs.Act.{Act, Text, Offer, Picked}
+use Rattle.lsp_rpc.specs.Act.{Act, Text, Offer}
 use Rattle.lsp_rpc.specs.Ident as ident
 use Rattle.lsp_rpc.specs.Ident.{Ident}
 use Rattle.lsp_rpc.specs.Params.{Row, editor_requests, editor_notifications, server_requests}

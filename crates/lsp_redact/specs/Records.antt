@@ -1,5 +1,5 @@
 -- What is written of an event, as records of a log.
-use Rattle.std.specs.Prelude.{◌≡◌, ℕ, ℤ, ◌/◌, List, [], ◌∷◌, map, max, Option, Some, None, chars}
+use Rattle.std.specs.Prelude.{◌≡◌, ℕ, ◌/◌, List, [], ◌∷◌, map, max, Option, Some, None, chars}
 use Rattle.std.specs.Prelude.{encode_utf8_all}
 use Rattle.lsp_extract.specs.Normal.{cut}
 use Rattle.lsp_frame.specs.Bounds.{Bounds}

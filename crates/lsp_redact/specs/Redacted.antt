@@ -1,5 +1,5 @@
 -- What `redact` answers and writes.
-use Rattle.std.specs.Prelude.{◌≡◌, List, ℕ, Result, Ok, Err, IfOk, ◌++◌}
+use Rattle.std.specs.Prelude.{◌≡◌, List, ℕ, Result, Err, IfOk, ◌++◌}
 use Rattle.lsp_frame.specs.Bounds.{Bounds}
 use Rattle.lsp_replay.specs.Run.{IsPassed}
 use Rattle.lsp_verdict.specs.Runs.{CountsFaults, IsSilent, OutputFor, Ports}

@@ -1,5 +1,5 @@
 -- What is kept of events, with its names and its characters replaced.
-use Rattle.std.specs.Prelude.{ℕ, List, map, Option, option_map}
+use Rattle.std.specs.Prelude.{ℕ, map, Option, option_map}
 use Rattle.lsp_rpc.specs.Act as act
 use Rattle.lsp_rpc.specs.Act.{Act, Change, Offer, Picked}
 use Rattle.lsp_redact.specs.Characters.{shown_bytes, shown_text}

@@ -1,4 +1,4 @@
-use Rattle.std.proofs.Common.{Option, Some, sym, ap, subst, ◌∙◌, option_map}
+use Rattle.std.proofs.Common.{Some, sym, ap, ◌∙◌, option_map}
 use Rattle.lsp_redact.specs.Kept.{kept_of}
 use Rattle.lsp_redact.specs.View.{spoken_kept}
 use Rattle.lsp_redact.proofs.KeptEvents.{content_kept}

@@ -1,4 +1,4 @@
-use Rattle.std.proofs.Common.{Some, None, refl}
+use Rattle.std.proofs.Common.{Some, refl}
 use Rattle.serde_json.specs.Data.{Data}
 use Rattle.lsp_redact.proofs.Showing.{writes_made, writes_same}
 use Rattle.lsp_redact.proofs.redaction.Redaction.given_encodings.Goals as goal
