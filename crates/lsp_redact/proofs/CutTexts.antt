@@ -221,6 +221,35 @@ front_at text s u most r utf8 starts ran =
     front_by text s u (max most 1) r utf8 one starts
     (subst (λ (k : ℕ). SkipsThenYields chars_steps s k r u) same ran)
 
+yielded_within : (xs : List ℕ) (s t : Chars) → Yields chars_steps s xs t
+    → length (chars_rest t) ≤ length (chars_rest s)
+yielded_within [] s t y = omega (arith, ap (λ (u : Chars). length (chars_rest u)) y)
+yielded_within (x ∷ xs) s t y = omega (
+  arith,
+  ap length y.1.0,
+  length-append (encode x) (chars_rest y.0),
+  yielded_within xs y.0 t y.2,
+)
+
+-- what is left is no longer than the text
+pub rest_within : (text : List ℕ) (s u : Chars) (n : ℕ) (r : Option ℕ) → chars_rest s ≡ text
+    → SkipsThenYields chars_steps s n r u → length (chars_rest u) ≤ length text
+rest_within text s u n r starts ran = by_last r ran.1.2
+  where
+    passed : length (chars_rest ran.1.0) ≤ length (chars_rest s)
+    passed = yielded_within ran.0 s ran.1.0 ran.1.1
+
+    by_last : (o : Option ℕ) → chars_steps ran.1.0 o u → length (chars_rest u) ≤ length text
+    by_last None step =
+        omega (arith, passed, ap length starts, ap (λ (t : Chars). length (chars_rest t)) step.0.1)
+    by_last (Some c) step = omega (
+      arith,
+      passed,
+      ap length starts,
+      ap length step.0,
+      length-append (encode c) (chars_rest u),
+    )
+
 -- the two parts of a text that is cut there
 pub cut_at : (text : List ℕ) (most at : ℕ) → IsFront text most at → (front back : List ℕ)
     → front ≡ take at text → back ≡ drop at text
