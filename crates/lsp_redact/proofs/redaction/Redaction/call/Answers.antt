@@ -7,7 +7,7 @@ use Rattle.lsp_redact.proofs.redaction.Redaction.call.Goals as goal
 
 pub returns-in_ok-opened-in-DidOpen : goal.returns-in_ok-opened-in-DidOpen
 returns-in_ok-opened-in-DidOpen c =
-    let told = rw c.as_str-in-DidOpen.ensures.value at
+    let told = rw c.as_str.ensures.value at
     rw c.as_str-2.ensures.value at c.in_ok-opened-in-DidOpen.ensures in
     rw c.in-DidOpen.is (writes_made (λ (d : Data). Some d) _ refl told)
 
