@@ -31,7 +31,7 @@ return [...document.querySelectorAll("#lanes > .row")].filter((it) => it.querySe
 
 def open_all(page, wanted, **how):
     """Opens a page in a window in which all rows are seen, and opens all rows."""
-    page.open(height=400 + 60 * len(wanted.events), **how)
+    page.open(height=800 + 60 * len(wanted.events), **how)
     closed = page.run(ROWS)
     page.run("document.querySelectorAll('.say').forEach((it) => it.click())")
     for _ in range(40):
