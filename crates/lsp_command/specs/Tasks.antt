@@ -23,6 +23,7 @@ use Rattle.lsp_replay.specs.TextAnswers.{WritesText}
 use Rattle.lsp_explain.specs.ExplainRuns.{all_run, explain_run}
 use Rattle.lsp_explain.specs.Explained.{ExplainsAll, WritesExplanation}
 use Rattle.lsp_explain.specs.Compared.{AnswersCompared}
+use Rattle.lsp_redact.specs.Redacted.{Redacts}
 use Rattle.lsp_survey.specs.AllShown.{ShowsAll}
 use Rattle.lsp_survey.specs.KeptText.{AnswersKept}
 use Rattle.lsp_survey.specs.Reported.{SurveysLog}
@@ -36,7 +37,7 @@ use Rattle.lsp_command.specs.declared.command_line.task.Task.TheVariants.{Check,
 use Rattle.lsp_command.specs.declared.command_line.task.Task.TheVariants.{Explain, ExplainAll}
 use Rattle.lsp_command.specs.declared.command_line.task.Task.TheVariants.{Compared, Show, ShowAll}
 use Rattle.lsp_command.specs.declared.command_line.task.Task.TheVariants.{Text, TextAll, Event}
-use Rattle.lsp_command.specs.declared.command_line.task.Task.TheVariants.{Normal, Upgrade, Frames, Json}
+use Rattle.lsp_command.specs.declared.command_line.task.Task.TheVariants.{Normal, Upgrade, Redact, Frames, Json}
 
 -- ---- how a task ends, by how its run ended
 
@@ -93,6 +94,7 @@ Answers limits (Event number) p result =
     × GivesEvent limits p (non_zero_u64_get number) ended
 Answers limits Normal p result = EndsRun (Normalizes limits p) result
 Answers limits Upgrade p result = EndsRun (UpgradesLog limits p) result
+Answers limits Redact p result = EndsRun (Redacts limits p) result
 Answers limits (Frames mode) p result = EndsRun (RunsFrames mode limits p) result
 Answers limits (Json report) p result = EndsRun (WritesReport limits report p) result
 

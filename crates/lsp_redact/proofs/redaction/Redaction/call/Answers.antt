@@ -1,0 +1,34 @@
+use Rattle.std.proofs.Common.{Some, refl}
+use Rattle.serde_json.specs.Data.{Data}
+use Rattle.lsp_redact.proofs.Copying.{says_nothing}
+use Rattle.lsp_redact.proofs.Showing.{writes_made}
+use Rattle.lsp_redact.proofs.ShownParams.{nothing_written}
+use Rattle.lsp_redact.proofs.redaction.Redaction.call.Goals as goal
+
+pub returns-in_ok-opened-in-DidOpen : goal.returns-in_ok-opened-in-DidOpen
+returns-in_ok-opened-in-DidOpen c =
+    let told = rw c.as_str.ensures.value at
+    rw c.as_str-2.ensures.value at c.in_ok-opened-in-DidOpen.ensures in
+    rw c.in-DidOpen.is (writes_made (λ (d : Data). Some d) _ refl told)
+
+pub returns-in_ok-changed-in-DidChange : goal.returns-in_ok-changed-in-DidChange
+returns-in_ok-changed-in-DidChange c =
+    let told = rw c.as_str-in-DidChange.ensures.value at
+    rw c.as_slice.ensures.value at c.in_ok-changed-in-DidChange.ensures in
+    rw c.in-DidChange.is (writes_made (λ (d : Data). Some d) _ refl told)
+
+pub returns-in_ok-closed-in-DidClose : goal.returns-in_ok-closed-in-DidClose
+returns-in_ok-closed-in-DidClose c =
+    let told = rw c.as_str-in-DidClose.ensures.value at c.in_ok-closed-in-DidClose.ensures in
+    rw c.in-DidClose.is (writes_made (λ (d : Data). Some d) _ refl told)
+
+pub returns-in_ok-saved-in-DidSave : goal.returns-in_ok-saved-in-DidSave
+returns-in_ok-saved-in-DidSave c =
+    let told = rw c.as_str-in-DidSave.ensures.value at
+    rw c.as_ref.ensures at c.in_ok-saved-in-DidSave.ensures in
+    rw c.in-DidSave.is (writes_made (λ (d : Data). Some d) _ refl told)
+
+pub returns-in_default : goal.returns-in_default
+returns-in_default c =
+    nothing_written c.args.self.now _ (says_nothing c.args.act.now c.in_default.not-DidOpen
+    c.in_default.not-DidChange c.in_default.not-DidClose c.in_default.not-DidSave)
