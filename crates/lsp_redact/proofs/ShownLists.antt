@@ -22,14 +22,15 @@ use Rattle.lsp_redact.specs.declared.names.Names as names
 use Rattle.lsp_redact.specs.declared.redaction.Redaction.{Redaction}
 use Rattle.lsp_redact.proofs.Showing.{shows_made, writes_both}
 
+lent_read : {D R : Type 0} (f : D → R) (r : Option (Bor D))
+    → option_map (λ x. f x.now) r ≡ option_map f (option_copied r)
+lent_read f None = refl
+lent_read f (Some x) = refl
+
 -- what is lent is there
 pub lent : {D R : Type 0} (f : D → R) (r : Option (Bor D)) (o : Option D) → option_copied r ≡ o
     → option_map (λ x. f x.now) r ≡ option_map f o
-lent f r o is = read r ∙ ap (option_map f) is
-  where
-    read : (r : Option (Bor _)) → option_map (λ x. f x.now) r ≡ option_map f (option_copied r)
-    read None = refl
-    read (Some x) = refl
+lent f r o is = lent_read f r ∙ ap (option_map f) is
 
 -- ---- changes
 

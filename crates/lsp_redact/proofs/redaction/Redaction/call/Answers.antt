@@ -1,7 +1,8 @@
-use Rattle.std.proofs.Common.{Some, refl}
+use Rattle.std.proofs.Common.{Some, refl, string_bytes}
 use Rattle.serde_json.specs.Data.{Data}
 use Rattle.lsp_redact.proofs.Copying.{says_nothing}
 use Rattle.lsp_redact.proofs.Showing.{writes_made}
+use Rattle.lsp_redact.proofs.ShownLists.{lent}
 use Rattle.lsp_redact.proofs.ShownParams.{nothing_written}
 use Rattle.lsp_redact.proofs.redaction.Redaction.call.Goals as goal
 
@@ -24,8 +25,9 @@ returns-in_ok-closed-in-DidClose c =
 
 pub returns-in_ok-saved-in-DidSave : goal.returns-in_ok-saved-in-DidSave
 returns-in_ok-saved-in-DidSave c =
+    let text = lent (λ t. string_bytes t) c.as_ref.result c.in-DidSave.text.now c.as_ref.ensures.value in
     let told = rw c.as_str-in-DidSave.ensures.value at
-    rw c.as_ref.ensures at c.in_ok-saved-in-DidSave.ensures in
+    rw text at c.in_ok-saved-in-DidSave.ensures in
     rw c.in-DidSave.is (writes_made (λ (d : Data). Some d) _ refl told)
 
 pub returns-in_default : goal.returns-in_default
