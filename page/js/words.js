@@ -107,6 +107,15 @@ const LINES = {
   fits: ["It would fit", (names) => [
     `if columns were counted in ${names.join(" or ").toUpperCase()}`,
   ]],
+  "at-once": ["It would fit", ([version, ...by]) => [
+    `if the ranges of version ${version} were all taken in the text before it: `, ...shownEvent(by),
+  ]],
+  exchanged: ["It would fit", ([version, ...by]) => [
+    `if version ${version} came after the next one: `, ...shownEvent(by),
+  ]],
+  without: ["It would fit", ([version, ...by]) => [
+    `if version ${version} were left out: `, ...shownEvent(by),
+  ]],
   bytes: ["Size", ([count]) => [`the text would have ${count} bytes`]],
   limit: ["Limit", ([count]) => [`${count} bytes`]],
   at: ["First difference", ([line, column]) => [shownPlace(line, column)]],

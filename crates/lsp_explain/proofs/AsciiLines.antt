@@ -46,11 +46,11 @@ use Rattle.lsp_verdict.specs.Offences.{kept_of}
 use Rattle.lsp_explain.specs.AsciiLines.{AllInAscii, AreInAscii, FallsInAscii, NoFitsInAscii}
 use Rattle.lsp_explain.specs.AsciiLines.{SpansAscii}
 use Rattle.lsp_explain.specs.Bases.{base_at, base_in, later, sent_since}
-use Rattle.lsp_explain.specs.Fits.{agreed_encoding, edits_in, fitting_any, fitting_of, if_named}
-use Rattle.lsp_explain.specs.Fits.{is_given, is_made, is_reached, made, made_by, most_named}
-use Rattle.lsp_explain.specs.Fits.{other_encodings, own_edits, reached, suspected}
+use Rattle.lsp_explain.specs.Fits.{if_named, is_given, is_made, is_reached, made, made_by}
+use Rattle.lsp_explain.specs.Fits.{most_named, other_encodings, own_edits, reached, suspected}
 use Rattle.lsp_explain.specs.Marking.{agreed, steps}
-use Rattle.lsp_explain.specs.SentEdits.{SentEdits, are_few}
+use Rattle.lsp_explain.specs.SentEdits.{SentEdits, are_few, sent_edits}
+use Rattle.lsp_explain.specs.Told.{agreed_encoding, fitting_any, fitting_of}
 use Rattle.lsp_explain.specs.Traced.{until_of}
 use Rattle.lsp_explain.specs.declared.suspects.Until.{Until}
 use Rattle.lsp_explain.specs.declared.suspects.Until.TheVariants as until
@@ -141,23 +141,23 @@ then_some f None w is = absurd (none-some w is)
 then_some f (Some v) w is = (v, (refl, is))
 
 -- **in each encoding the suspects make the text of the messages, if any**
-ascii_made : (limit : ℕ) (enc e : Encoding) (t u w : Text) (edits : List (List Edit))
-    → AllInAscii limit enc t edits → AreMade limit t edits u
-    → made_by limit e t edits ≡ Some w → w ≡ u
+ascii_made : (limit : ℕ) (enc e : Encoding) (t u w : Text) (sent : List SentEdits)
+    → AllInAscii limit enc t sent → AreMade limit t sent u
+    → made_by limit e t sent ≡ Some w → w ≡ u
 ascii_made limit enc e t u w [] low are is = sym (same_Some t w is) ∙ are
-ascii_made limit enc e t u w (edits ∷ more) low (x, (one, rest)) is =
-    let parts = then_some (λ v. made_by limit e v more) (made limit e t edits) w is in
-    let by : applied limit enc t edits ≡ Ok x =
-    sym (ascii_applied limit enc one.encoding t edits low.0) ∙ one.made in
-    let own : applied limit enc t edits ≡ Ok parts.0 =
-    sym (ascii_applied limit enc e t edits low.0)
-    ∙ made_is (is_some (findings limit e t edits).past_end) (applied limit e t edits) parts.0
+ascii_made limit enc e t u w (s ∷ more) low (x, (one, rest)) is =
+    let parts = then_some (λ v. made_by limit e v more) (made limit e t s.edits) w is in
+    let by : applied limit enc t s.edits ≡ Ok x =
+    sym (ascii_applied limit enc one.encoding t s.edits low.0) ∙ one.made in
+    let own : applied limit enc t s.edits ≡ Ok parts.0 =
+    sym (ascii_applied limit enc e t s.edits low.0)
+    ∙ made_is (is_some (findings limit e t s.edits).past_end) (applied limit e t s.edits) parts.0
     parts.1.0 in
     ascii_made limit enc e x u w more
     (subst (λ (r : Result Text ℕ). IfOk r (λ (v : Text). AllInAscii limit enc v more)) by low.1)
     rest
     (subst (λ (v : Text). made_by limit e v more ≡ Some w)
-    (same_text_made parts.0 x (applied limit enc t edits) own by) parts.1.1)
+    (same_text_made parts.0 x (applied limit enc t s.edits) own by) parts.1.1)
 
 -- ---- encodings
 
@@ -169,13 +169,13 @@ is_other_text ends t u other =
       | inr q ↦ q
     ]
 
-module _ (terms : Terms) (enc : Encoding) (t u other : Text) (edits : List (List Edit))
-    (low : AllInAscii terms.limit enc t edits) (are : AreMade terms.limit t edits u)
+module _ (terms : Terms) (enc : Encoding) (t u other : Text) (sent : List SentEdits)
+    (low : AllInAscii terms.limit enc t sent) (are : AreMade terms.limit t sent u)
     (apart : IsOther terms.line_ends u other) where
-  not_given : (e : Encoding) → is_given terms t edits other e ≡ false
+  not_given : (e : Encoding) → is_given terms t sent other e ≡ false
   not_given e =
-      by_made (made_by terms.limit e t edits)
-      (λ w. ascii_made terms.limit enc e t u w edits low are)
+      by_made (made_by terms.limit e t sent)
+      (λ w. ascii_made terms.limit enc e t u w sent low are)
     where
       by_made : (o : Option Text) → ((w : Text) → o ≡ Some w → w ≡ u)
           → is_made terms.line_ends other o ≡ false
@@ -191,9 +191,9 @@ none_pass p (e ∷ es) none =
     ap (λ (b : Bool). if b then e ∷ filter p es else filter p es) (none e)
     ∙ none_pass p es none
 
-none_given : (terms : Terms) (enc : Encoding) (t u other : Text) (edits : List (List Edit))
-    → AllInAscii terms.limit enc t edits → AreMade terms.limit t edits u
-    → IsOther terms.line_ends u other → fitting_any terms enc t edits other ≡ []
+none_given : (terms : Terms) (enc : Encoding) (t u other : Text) (sent : List SentEdits)
+    → AllInAscii terms.limit enc t sent → AreMade terms.limit t sent u
+    → IsOther terms.line_ends u other → fitting_any terms enc t sent other ≡ []
 none_given terms enc t u other [] low are apart = refl
 none_given terms enc t u other (one ∷ more) low are apart =
     none_pass (is_given terms t (one ∷ more) other) (other_encodings enc)
@@ -202,7 +202,7 @@ none_given terms enc t u other (one ∷ more) low are apart =
 -- ---- suspects
 
 -- none is looked at, or all are
-none_or_all : (few : Bool) (all : List (List Edit))
+none_or_all : (few : Bool) (all : List SentEdits)
     → ((if few then if_named all else []) ≡ []) ⊎ ((if few then if_named all else []) ≡ all)
 none_or_all false all = inl refl
 none_or_all true all = by_test (nat_lt most_named (length all))
@@ -245,11 +245,11 @@ none_reached n m sent less =
 -- they make the text of the messages, or there are none
 module _ (terms : Terms) (enc : Encoding) (base : Version) (limit : Until) (sent : List SentEdits)
     (call : Call) (u other : Text) where
-  abbrev looked_at : List (List Edit)
+  abbrev looked_at : List SentEdits
   looked_at = suspected base limit sent call
 
-  abbrev all_of_them : List (List Edit)
-  all_of_them = edits_in (reached limit (later base.number sent)) ++ edits_in (own_edits call)
+  abbrev all_of_them : List SentEdits
+  all_of_them = reached limit (later base.number sent) ++ own_edits call
 
   none_by : (all_of_them ≡ []) ⊎ AreMade terms.limit base.text all_of_them u
       → AllInAscii terms.limit enc base.text looked_at → IsOther terms.line_ends u other
@@ -366,17 +366,17 @@ module _ (terms : Terms) (before : List Call) (accepted : AreAccepted terms befo
   -- the changes since make the text that is held
   held_made : (v : Version) → held terms uri before ≡ Some v
       → base_in equal (versions (Some v)) ≡ Some base
-      → AreMade terms.limit base.text (edits_in since) v.text
+      → AreMade terms.limit base.text since v.text
   held_made v now is =
       by_place (made_since terms uri before equal base v v accepted now is
       (among-back v (past terms uri before) (v ∷ []) (inl refl)))
     where
       by_place : (int_lt v.number base.number ≡ true)
-          ⊎ AreMade terms.limit base.text (edits_in (reached (until.Version v.number) since)) v.text
-          → AreMade terms.limit base.text (edits_in since) v.text
+          ⊎ AreMade terms.limit base.text (reached (until.Version v.number) since) v.text
+          → AreMade terms.limit base.text since v.text
       by_place (inl less) = absurd (true≢false (sym less ∙ base_within v now is))
       by_place (inr are) =
-          subst (λ (l : List SentEdits). AreMade terms.limit base.text (edits_in l) v.text)
+          subst (λ (l : List SentEdits). AreMade terms.limit base.text l v.text)
           (reached_within v.number since (within-later v.number base.number (sent_since uri before)
           (sent_rise terms uri before accepted v now).1)) are
 
@@ -384,22 +384,22 @@ module _ (terms : Terms) (before : List Call) (accepted : AreAccepted terms befo
   kept_made : (p : Version → Bool) (v w : Version) → held terms uri before ≡ Some v
       → base_in equal (versions (Some v)) ≡ Some base
       → find p (kept terms uri before ++ v ∷ []) ≡ Some w
-      → (edits_in (reached (until.Version w.number) since) ≡ [])
-      ⊎ AreMade terms.limit base.text (edits_in (reached (until.Version w.number) since)) w.text
+      → (reached (until.Version w.number) since ≡ [])
+      ⊎ AreMade terms.limit base.text (reached (until.Version w.number) since) w.text
   kept_made p v w now is found =
       by_place (made_since terms uri before equal base v w accepted now is
       (kept_among terms uri before p v w found))
     where
       by_place : (int_lt w.number base.number ≡ true)
-          ⊎ AreMade terms.limit base.text (edits_in (reached (until.Version w.number) since)) w.text
-          → (edits_in (reached (until.Version w.number) since) ≡ [])
-          ⊎ AreMade terms.limit base.text (edits_in (reached (until.Version w.number) since)) w.text
+          ⊎ AreMade terms.limit base.text (reached (until.Version w.number) since) w.text
+          → (reached (until.Version w.number) since ≡ [])
+          ⊎ AreMade terms.limit base.text (reached (until.Version w.number) since) w.text
       by_place (inl less) =
-          inl (ap edits_in (none_reached w.number base.number (sent_since uri before) less))
+          inl (none_reached w.number base.number (sent_since uri before) less)
       by_place (inr are) = inr are
 
 -- what suspects make, where these are all of them
-moved_made : (limit : ℕ) (t u w : Text) (xs ys : List (List Edit)) → xs ≡ ys → u ≡ w
+moved_made : (limit : ℕ) (t u w : Text) (xs ys : List SentEdits) → xs ≡ ys → u ≡ w
     → (xs ≡ []) ⊎ AreMade limit t xs u → (ys ≡ []) ⊎ AreMade limit t ys w
 moved_made limit t u w xs ys same own (inl none) = inl (sym same ∙ none)
 moved_made limit t u w xs ys same own (inr are) =
@@ -410,11 +410,11 @@ module _ (terms : Terms) (before : List Call) (accepted : AreAccepted terms befo
   where
     abbrev AllMake : Call → Type 0
     AllMake call =
-        (edits_in (reached (until_of p call) (later base.number (sent_since (uri_of call) before)))
-        ++ edits_in (own_edits call) ≡ [])
+        (reached (until_of p call) (later base.number (sent_since (uri_of call) before))
+        ++ own_edits call ≡ [])
         ⊎ AreMade terms.limit base.text
-        (edits_in (reached (until_of p call) (later base.number (sent_since (uri_of call) before)))
-        ++ edits_in (own_edits call)) texts.by_messages
+        (reached (until_of p call) (later base.number (sent_since (uri_of call) before))
+        ++ own_edits call) texts.by_messages
 
     abbrev HasBase : Call → Option Version → Type 0
     HasBase call h = base_in equal (past terms (uri_of call) before ++ option_to_list h) ≡ Some base
@@ -425,8 +425,8 @@ module _ (terms : Terms) (before : List Call) (accepted : AreAccepted terms befo
         let found = saved_made text (held terms uri before) texts is in
         let v = found.0 in
         let since = later base.number (sent_since uri before) in
-        moved_made terms.limit base.text v.text texts.by_messages (edits_in since) _
-        (ap edits_in (sym (reached_held since)) ∙ sym (append-nil (edits_in (reached until.Held since))))
+        moved_made terms.limit base.text v.text texts.by_messages since _
+        (sym (reached_held since) ∙ sym (append-nil (reached until.Held since)))
         found.1.1
         (inr (held_made terms before accepted equal uri base v found.1.0
         (subst (HasBase (saves uri text)) found.1.0 own)))
@@ -457,9 +457,9 @@ module _ (terms : Terms) (before : List Call) (accepted : AreAccepted terms befo
             (found_is (differs_from terms.line_ends s) (kept terms uri before ++ v ∷ []) w
             found.1.0)).0 in
             moved_made terms.limit base.text w.text texts.by_messages
-            (edits_in (reached (until.Version w.number) since)) _
-            (ap (λ (m : ℤ). edits_in (reached (until.Version m) since)) at
-            ∙ sym (append-nil (edits_in (reached (until.Version n) since))))
+            (reached (until.Version w.number) since) _
+            (ap (λ (m : ℤ). reached (until.Version m) since) at
+            ∙ sym (append-nil (reached (until.Version n) since)))
             found.1.1
             (kept_made terms before accepted equal uri base (differs_from terms.line_ends s) v w now
             own found.1.0)
@@ -473,9 +473,10 @@ module _ (terms : Terms) (before : List Call) (accepted : AreAccepted terms befo
         let v = found.version in
         let since = later base.number (sent_since uri before) in
         moved_made terms.limit base.text texts.by_messages texts.by_messages
-        (edits_in since ++ cs ∷ []) _
-        (ap (λ (l : List SentEdits). edits_in l ++ cs ∷ []) (sym (reached_message p n since))) refl
-        (inr (made_one_more terms.limit base.text v.text texts.by_messages (edits_in since) cs
+        (since ++ sent_edits n cs ∷ []) _
+        (ap (λ (l : List SentEdits). l ++ sent_edits n cs ∷ []) (sym (reached_message p n since)))
+        refl
+        (inr (made_one_more terms.limit base.text v.text texts.by_messages since (sent_edits n cs)
         (held_made terms before accepted equal uri base v found.was
         (subst (HasBase (changes enc kind uri n cs)) found.was own))
         (record { encoding = enc; made = found.made })))

@@ -1,43 +1,34 @@
--- The encodings in which the suspects make a text, as the code finds them.
+-- What suspects make of a text, and in which encodings, as the code finds it.
 use Rattle.std.specs.Borrow.{Bor}
-use Rattle.std.specs.Prelude.{int_lt, nat_lt, not, filter, if◌then◌else◌, length, map, MatchOption}
-use Rattle.std.specs.Prelude.{option_and_then, option_to_list, is_some, ℤ, Result, Ok, Err}
+use Rattle.std.specs.Prelude.{nat_lt, not, filter, if◌then◌else◌, length, map, MatchOption}
+use Rattle.std.specs.Prelude.{option_and_then, is_some, ℤ, Result, Ok, Err}
 use Rattle.std.specs.List.{prefix_len}
 use Rattle.std.specs.Result.{result_ok}
 use Rattle.std.proofs.Common.{◌≡◌, ◌≤◌, ◌<◌, ◌+◌, ℕ, Bool, true, false, List, [], ◌∷◌, ◌++◌, Option}
-use Rattle.std.proofs.Common.{Some, None, refl, sym, ap, ◌∙◌, append-nil, arith, drop, get_or}
-use Rattle.std.proofs.Common.{subst, suc, take}
+use Rattle.std.proofs.Common.{Some, None, refl, sym, ap, ◌∙◌, append-nil, append_assoc, arith, drop}
+use Rattle.std.proofs.Common.{get_or, subst, suc, take}
 use Rattle.std.proofs.lemmas.Bool.Decides.{nat_tests}
-use Rattle.std.proofs.lemmas.List.{at_drop_more, take-map}
+use Rattle.std.proofs.lemmas.List.{at_drop_more, map-append, take-map}
 use Rattle.lsp_types.specs.declared.change.Change.{Change}
 use Rattle.lsp_types.specs.declared.change.SyncKind.{SyncKind}
 use Rattle.lsp_types.specs.declared.position.Encoding.{Encoding}
-use Rattle.lsp_text.specs.Changes.{edits_of}
-use Rattle.lsp_text.specs.Edits.{Edit}
 use Rattle.lsp_text.specs.SameText.{same_text}
 use Rattle.lsp_text.specs.declared.findings.Findings.{Findings}
 use Rattle.lsp_docs.specs.Calls.{Call, Text}
-use Rattle.lsp_docs.specs.Documents.{Terms, Version}
+use Rattle.lsp_docs.specs.Documents.{Terms}
 use Rattle.lsp_docs.specs.Taken.{call_view}
 use Rattle.lsp_docs.specs.declared.call.Call as code
 use Rattle.lsp_docs.specs.declared.call.Call.TheVariants.{Opens, Changes, Closes, Saves, Shows}
-use Rattle.lsp_facts.specs.DocumentFacts.{fits_fact}
-use Rattle.lsp_facts.specs.Fact.{Fact}
-use Rattle.lsp_facts.specs.TwoTexts.{TwoTexts}
-use Rattle.lsp_verdict.specs.Event.{Event}
-use Rattle.lsp_explain.specs.Bases.{HoldsAny, base_in, later, sent_in, text_in}
 use Rattle.lsp_explain.specs.SentEdits.{SentEdits, are_few, sent_view, sents_view}
-use Rattle.lsp_explain.specs.Fits.{AreNamed, AreSuspects, edits_in, fits, fits_facts, fitting}
-use Rattle.lsp_explain.specs.Fits.{fitting_any, fitting_of, if_given, if_named, is_given, is_made}
-use Rattle.lsp_explain.specs.Fits.{held_reached, is_reached, listed, made, made_by, most_named}
-use Rattle.lsp_explain.specs.Fits.{own_edits, reached, suspected, suspected_view, suspects_in}
-use Rattle.lsp_explain.specs.Fits.{text_if}
+use Rattle.lsp_explain.specs.Fits.{AreNamed, AreSuspects, both, held_reached, if_given, if_named}
+use Rattle.lsp_explain.specs.Fits.{is_given, is_given_by, is_made, is_reached, made, made_by}
+use Rattle.lsp_explain.specs.Fits.{most_named, own_edits, reached, suspect_view, suspected_view}
+use Rattle.lsp_explain.specs.Fits.{suspects_in, suspects_view, text_if}
+use Rattle.lsp_explain.specs.declared.fits.Suspect.{Suspect}
 use Rattle.lsp_explain.specs.declared.fits.Suspected.{Suspected}
+use Rattle.lsp_explain.specs.declared.fits.Trial.{Trial}
 use Rattle.lsp_explain.specs.declared.suspects.Until.{Until}
-use Rattle.lsp_explain.specs.declared.trail.base.Base.{Base}
 use Rattle.lsp_explain.specs.declared.trail.base.SentChanges.{SentChanges}
-use Rattle.lsp_explain.specs.declared.trail.mark.VersionEvent.{VersionEvent}
-use Rattle.lsp_explain.proofs.LaterChanges.{many-front}
 
 -- ---- two encodings
 
@@ -52,110 +43,10 @@ given_two p a b = by_tests (p a) (p b)
     by_tests false y = refl
 
 -- those of two in which the suspects make a text
-pub fitting_two : (terms : Terms) (t other : Text) (edits : List (List Edit))
-    (p : Encoding × Encoding)
-    → [] ++ if_given terms t edits other p.0 ++ if_given terms t edits other p.1
-    ≡ filter (is_given terms t edits other) (listed p)
-fitting_two terms t other edits p = given_two (is_given terms t edits other) p.0 p.1
-
--- ---- no suspects
-
--- too many changes follow the base
-pub unsuspected : (base : Version) (limit : Until) (sent : List SentEdits) (call : Call)
-    → are_few (later base.number sent) ≡ false → suspected base limit sent call ≡ []
-unsuspected base limit sent call many =
-    ap (λ (b : Bool). if b then if_named (edits_in (reached limit (later base.number sent))
-    ++ edits_in (own_edits call)) else [])
-    (many-front (later base.number sent) (own_edits call) many)
-
--- then no encoding is named
-pub none_fits : (terms : Terms) (enc : Encoding) (limit : Until) (sent : List SentEdits)
-    (call : Call) (base : Version) (texts : Option TwoTexts)
-    → suspected base limit sent call ≡ []
-    → fitting_of terms enc limit sent call (Some base) texts ≡ []
-none_fits terms enc limit sent call base None none = refl
-none_fits terms enc limit sent call base (Some texts) none =
-    ap (λ edits. fitting_any terms enc base.text edits texts.in_editor) none
-
--- nor without two texts
-pub none_differ : (terms : Terms) (enc : Encoding) (limit : Until) (sent : List SentEdits)
-    (call : Call) (base : Option Version)
-    → fitting_of terms enc limit sent call base None ≡ []
-none_differ terms enc limit sent call None = refl
-none_differ terms enc limit sent call (Some base) = refl
-
--- ---- what is held of a document
-
--- a base of it is known
-pub record IsKnown (terms : Terms) (equal : Option VersionEvent) (versions : List Version)
-    (sent : List SentEdits) (b : Base) (t : Text) : Type 0 where
-  pub base : Version
-  pub is : base_in equal versions ≡ Some base
-  pub text : t ≡ base.text
-  pub all : sent_in b ≡ later base.number sent
-  pub few : are_few (sent_in b) ≡ true
-
-module _ (terms : Terms) (equal : Option VersionEvent) (past kept : List Version)
-    (sent : List SentEdits) where
-  abbrev Holds : Option Version → Option Base → Type 0
-  Holds h b = HoldsAny terms equal (past ++ option_to_list h) kept h sent b
-
-  -- nothing is held: no encoding is named
-  pub nothing_fits : (enc : Encoding) (limit : Until) (call : Call) (h : Option Version)
-      (texts : Option TwoTexts) → (h ≡ None → past ≡ []) → Holds h None
-      → fitting_of terms enc limit sent call (base_in equal (past ++ option_to_list h)) texts ≡ []
-  nothing_fits enc limit call None texts empty holds =
-      ap (λ e. fitting_of terms enc limit sent call (base_in e (past ++ [])) texts) holds.0
-      ∙ ap (λ ps. fitting_of terms enc limit sent call (base_in None (ps ++ [])) texts) (empty refl)
-  nothing_fits enc limit call (Some v) texts empty holds =
-      ap (λ o. fitting_of terms enc limit sent call o texts) holds.is
-      ∙ none_fits terms enc limit sent call holds.base texts
-      (unsuspected holds.base limit sent call holds.holds.many)
-
-  -- no text is held
-  pub no_text_fits : (enc : Encoding) (limit : Until) (call : Call) (h : Option Version) (b : Base)
-      (texts : Option TwoTexts) → text_in b ≡ None → Holds h (Some b)
-      → fitting_of terms enc limit sent call (base_in equal (past ++ option_to_list h)) texts ≡ []
-  no_text_fits enc limit call None b texts none holds = absurd (cc holds.1)
-  no_text_fits enc limit call (Some v) b texts none holds =
-      let gone : int_lt holds.base.number b.since ≡ true =
-      subst (λ o. MatchOption o (int_lt holds.base.number b.since ≡ true)
-      (λ t. (b.since ≡ holds.base.number) × (t ≡ holds.base.text))) none holds.holds.text in
-      ap (λ o. fitting_of terms enc limit sent call o texts) holds.is
-      ∙ none_fits terms enc limit sent call holds.base texts
-      (unsuspected holds.base limit sent call (holds.holds.since_base gone))
-
-  -- a text is held: it is that of the base
-  pub known : (h : Option Version) (b : Base) (t : Text) → text_in b ≡ Some t → Holds h (Some b)
-      → IsKnown terms equal (past ++ option_to_list h) sent b t
-  known None b t is holds = absurd (cc holds.1)
-  known (Some v) b t is holds =
-      let own : (b.since ≡ holds.base.number) × (t ≡ holds.base.text) =
-      subst (λ o. MatchOption o (int_lt holds.base.number b.since ≡ true)
-      (λ t. (b.since ≡ holds.base.number) × (t ≡ holds.base.text))) is holds.holds.text in
-      record {
-        base = holds.base;
-        is = holds.is;
-        text = own.1;
-        all = holds.holds.sent ∙ ap (λ n. later n sent) own.0;
-        few = holds.holds.few;
-      }
-
--- ---- some suspects
-
--- the encodings are those in which they make the text
-pub some_fit : (terms : Terms) (enc : Encoding) (t other : Text) (edits : List (List Edit))
-    → (edits ≡ [] → ⊥) → fitting_any terms enc t edits other ≡ fitting terms enc t edits other
-some_fit terms enc t other [] some = absurd (some refl)
-some_fit terms enc t other (one ∷ more) some = refl
-
--- ---- nothing is said
-
-pub unfit : (old : List Fact) (terms : Terms) (before : List Event) (rule : ℕ) (limit : Until)
-    (call : Call) → fits terms before rule limit call ≡ []
-    → old ≡ old ++ fits_facts terms before rule limit call
-unfit old terms before rule limit call none =
-    sym (append-nil old) ∙ ap (λ es. old ++ fits_fact es) (sym none)
+pub fitting_two : (trial : Trial) (sent : List SentEdits) (p : Encoding × Encoding)
+    → [] ++ if_given trial sent p.0 ++ if_given trial sent p.1
+    ≡ filter (is_given_by trial sent) (both p)
+fitting_two trial sent p = given_two (is_given_by trial sent) p.0 p.1
 
 -- ---- what changes make
 
@@ -179,125 +70,81 @@ made_not f r u rule fails =
     by_end true = refl
     by_end false = refl
 
--- of several messages, one after another
-pub made_by-append : (limit : ℕ) (enc : Encoding) (t : Text) (xs ys : List (List Edit))
-    → made_by limit enc t (xs ++ ys)
-    ≡ option_and_then (λ (u : Text). made_by limit enc u ys) (made_by limit enc t xs)
-made_by-append limit enc t [] ys = refl
-made_by-append limit enc t (edits ∷ xs) ys = by_made (made limit enc t edits)
-    (λ u. made_by-append limit enc u xs ys)
-  where
-    by_made : (o : Option Text)
-        → ((u : Text) → made_by limit enc u (xs ++ ys)
-        ≡ option_and_then (λ (w : Text). made_by limit enc w ys) (made_by limit enc u xs))
-        → option_and_then (λ (u : Text). made_by limit enc u (xs ++ ys)) o
-        ≡ option_and_then (λ (w : Text). made_by limit enc w ys)
-        (option_and_then (λ (u : Text). made_by limit enc u xs) o)
-    by_made None more = refl
-    by_made (Some u) more = more u
-
 -- the changes of the first one could not all be made, or not be made at all
-pub made_none : (limit : ℕ) (enc : Encoding) (t u : Text) (edits : List Edit)
-    (more : List (List Edit)) → text_if false u ≡ made limit enc t edits
-    → text_if false u ≡ made_by limit enc t (edits ∷ more)
-made_none limit enc t u edits more none =
+pub made_none : (limit : ℕ) (enc : Encoding) (t u : Text) (s : SentEdits)
+    (more : List SentEdits) → text_if false u ≡ made limit enc t s.edits
+    → text_if false u ≡ made_by limit enc t (s ∷ more)
+made_none limit enc t u s more none =
     ap (option_and_then (λ (w : Text). made_by limit enc w more)) none
 
 -- they could be made
-pub made_some : (limit : ℕ) (enc : Encoding) (t u : Text) (edits : List Edit)
-    (more : List (List Edit)) → text_if true u ≡ made limit enc t edits
-    → made_by limit enc t (edits ∷ more) ≡ made_by limit enc u more
-made_some limit enc t u edits more some =
+pub made_some : (limit : ℕ) (enc : Encoding) (t u : Text) (s : SentEdits)
+    (more : List SentEdits) → text_if true u ≡ made limit enc t s.edits
+    → made_by limit enc t (s ∷ more) ≡ made_by limit enc u more
+made_some limit enc t u s more some =
     sym (ap (option_and_then (λ (w : Text). made_by limit enc w more)) some)
 
--- those of a message alone
-pub made_one : (limit : ℕ) (enc : Encoding) (t : Text) (edits : List Edit)
-    → made_by limit enc t (edits ∷ []) ≡ made limit enc t edits
-made_one limit enc t edits = by_made (made limit enc t edits)
-  where
-    by_made : (o : Option Text)
-        → option_and_then (λ (u : Text). made_by limit enc u []) o ≡ o
-    by_made None = refl
-    by_made (Some u) = refl
-
--- those of earlier messages, and of the call itself
-pub all_made : (limit : ℕ) (enc : Encoding) (t u w : Text) (sent : List (List Edit))
-    (edits : List Edit) (b : Bool) → text_if true u ≡ made_by limit enc t sent
-    → text_if b w ≡ made limit enc u edits
-    → text_if b w ≡ made_by limit enc t (sent ++ edits ∷ [])
-all_made limit enc t u w sent edits b some is =
-    is ∙ sym (made_one limit enc u edits)
-    ∙ ap (option_and_then (λ (x : Text). made_by limit enc x (edits ∷ []))) some
-    ∙ sym (made_by-append limit enc t sent (edits ∷ []))
-
-pub none_made : (limit : ℕ) (enc : Encoding) (t u : Text) (sent more : List (List Edit))
-    → text_if false u ≡ made_by limit enc t sent
-    → text_if false u ≡ made_by limit enc t (sent ++ more)
-none_made limit enc t u sent more none =
-    ap (option_and_then (λ (x : Text). made_by limit enc x more)) none
-    ∙ sym (made_by-append limit enc t sent more)
-
 -- the text that they make is the other one, or they make none
-pub given_so : (terms : Terms) (t u other : Text) (edits : List (List Edit)) (enc : Encoding)
-    → text_if true u ≡ made_by terms.limit enc t edits
-    → same_text terms.line_ends u other ≡ is_given terms t edits other enc
-given_so terms t u other edits enc some = ap (is_made terms.line_ends other) some
+pub given_so : (terms : Terms) (t u other : Text) (sent : List SentEdits) (enc : Encoding)
+    → text_if true u ≡ made_by terms.limit enc t sent
+    → same_text terms.line_ends u other ≡ is_given terms t sent other enc
+given_so terms t u other sent enc some = ap (is_made terms.line_ends other) some
 
-pub given_not : (terms : Terms) (t u other : Text) (edits : List (List Edit)) (enc : Encoding)
-    → text_if false u ≡ made_by terms.limit enc t edits
-    → false ≡ is_given terms t edits other enc
-given_not terms t u other edits enc none = ap (is_made terms.line_ends other) none
+pub given_not : (terms : Terms) (t u other : Text) (sent : List SentEdits) (enc : Encoding)
+    → text_if false u ≡ made_by terms.limit enc t sent
+    → false ≡ is_given terms t sent other enc
+given_not terms t u other sent enc none = ap (is_made terms.line_ends other) none
 
 -- ---- which suspects there are
 
 -- more than are named
-too_many : (edits : List (List Edit)) → 17 < length edits → if_named edits ≡ []
-too_many edits many =
-    ap (λ (b : Bool). if b then [] else edits) (more_so (length edits) many)
+too_many : (sent : List SentEdits) → 17 < length sent → if_named sent ≡ []
+too_many sent many =
+    ap (λ (b : Bool). if b then [] else sent) (more_so (length sent) many)
   where
     more_so : (n : ℕ) → 17 < n → nat_lt most_named n ≡ true
     more_so n many = grind (arith, nat_tests)
 
-not_too_many : (edits : List (List Edit)) → length edits ≤ 17 → if_named edits ≡ edits
-not_too_many edits some =
-    ap (λ (b : Bool). if b then [] else edits) (less_so (length edits) some)
+not_too_many : (sent : List SentEdits) → length sent ≤ 17 → if_named sent ≡ sent
+not_too_many sent some =
+    ap (λ (b : Bool). if b then [] else sent) (less_so (length sent) some)
   where
     less_so : (n : ℕ) → n ≤ 17 → nat_lt most_named n ≡ false
     less_so n some = grind (arith, nat_tests)
 
-none_either : (b : Bool) (edits : List (List Edit)) → edits ≡ []
-    → (if b then edits else []) ≡ []
-none_either true edits none = none
-none_either false edits none = refl
+none_either : (b : Bool) (sent : List SentEdits) → sent ≡ []
+    → (if b then sent else []) ≡ []
+none_either true sent none = none
+none_either false sent none = refl
 
 -- there are more than are named
-pub many_named : (few : Bool) (edits : List (List Edit)) → 17 < length edits → AreNamed few edits None
-many_named few edits many = record { is = none_either few (if_named edits) (too_many edits many) }
+pub many_named : (few : Bool) (sent : List SentEdits) → 17 < length sent → AreNamed few sent None
+many_named few sent many = record { is = none_either few (if_named sent) (too_many sent many) }
 
 -- there are none, or they are not few
-pub none_named : (edits : List (List Edit)) → edits ≡ [] → AreNamed true edits None
-none_named edits none = record { is = ap if_named none }
+pub none_named : (sent : List SentEdits) → sent ≡ [] → AreNamed true sent None
+none_named sent none = record { is = ap if_named none }
 
-pub large_named : (few : Bool) (edits : List (List Edit)) → few ≡ false → AreNamed few edits None
-large_named few edits large = record {
-  is = ap (λ (b : Bool). if b then if_named edits else []) large;
+pub large_named : (few : Bool) (sent : List SentEdits) → few ≡ false → AreNamed few sent None
+large_named few sent large = record {
+  is = ap (λ (b : Bool). if b then if_named sent else []) large;
 }
 
 -- these
-pub are_named : (few : Bool) (edits : List (List Edit)) (s : Suspected) → few ≡ true
-    → length edits ≤ 17 → (edits ≡ [] → ⊥) → suspected_view s ≡ edits → AreNamed few edits (Some s)
-are_named few edits s all short some are =
-    let same : (if few then if_named edits else []) ≡ edits =
-    ap (λ (b : Bool). if b then if_named edits else []) all ∙ not_too_many edits short in
+pub are_named : (few : Bool) (sent : List SentEdits) (s : Suspected) → few ≡ true
+    → length sent ≤ 17 → (sent ≡ [] → ⊥) → suspected_view s ≡ sent → AreNamed few sent (Some s)
+are_named few sent s all short some are =
+    let same : (if few then if_named sent else []) ≡ sent =
+    ap (λ (b : Bool). if b then if_named sent else []) all ∙ not_too_many sent short in
     record {
       is = record { are = are ∙ sym same; some = λ none. some (sym same ∙ none) };
     }
 
-pub edits-length : (sent : List SentChanges) → length (edits_in (sents_view sent)) ≡ length sent
-edits-length [] = refl
-edits-length (s ∷ sent) = ap suc (edits-length sent)
+pub sents-length : (sent : List SentChanges) → length (sents_view sent) ≡ length sent
+sents-length [] = refl
+sents-length (s ∷ sent) = ap suc (sents-length sent)
 
-pub not_empty : (xs : List (List Edit)) (x : List Edit) → xs ++ x ∷ [] ≡ [] → ⊥
+pub not_empty : (xs : List SentEdits) (x : SentEdits) → xs ++ x ∷ [] ≡ [] → ⊥
 not_empty [] x is = cc is
 not_empty (y ∷ xs) x is = cc is
 
@@ -314,27 +161,41 @@ own_none (Shows u number text) not = refl
 
 -- those of earlier messages alone
 pub suspects_alone : (limit : Until) (sent : List SentEdits) (call : Call) (o : Option Suspected)
-    → own_edits call ≡ [] → are_few sent ≡ true → AreNamed true (edits_in (reached limit sent)) o
+    → own_edits call ≡ [] → are_few sent ≡ true → AreNamed true (reached limit sent) o
     → MatchOption o (suspects_in limit sent call ≡ []) (AreSuspects (suspects_in limit sent call))
 suspects_alone limit sent call o none few named =
-    let same : if_named (edits_in (reached limit sent)) ≡ suspects_in limit sent call =
+    let same : if_named (reached limit sent) ≡ suspects_in limit sent call =
     sym (ap (λ (es : List SentEdits). if are_few (sent ++ es)
-    then if_named (edits_in (reached limit sent) ++ edits_in es) else []) none
+    then if_named (reached limit sent ++ es) else []) none
     ∙ ap (λ (es : List SentEdits). if are_few es
-    then if_named (edits_in (reached limit sent) ++ []) else []) (append-nil sent)
-    ∙ ap (λ (b : Bool). if b then if_named (edits_in (reached limit sent) ++ []) else []) few
-    ∙ ap if_named (append-nil (edits_in (reached limit sent)))) in
-    subst (λ (es : List (List Edit)). MatchOption o (es ≡ []) (AreSuspects es)) same named.is
+    then if_named (reached limit sent ++ []) else []) (append-nil sent)
+    ∙ ap (λ (b : Bool). if b then if_named (reached limit sent ++ []) else []) few
+    ∙ ap if_named (append-nil (reached limit sent))) in
+    subst (λ (es : List SentEdits). MatchOption o (es ≡ []) (AreSuspects es)) same named.is
 
--- those of the messages from this one on
+-- from this one on
+pub suspects_from : (suspects : List Suspect) (i : ℕ) (s : Suspect) → i < length suspects
+    → s ≡ get_or suspects i s
+    → suspects_view (drop i suspects) ≡ suspect_view s ∷ suspects_view (drop (i + 1) suspects)
+suspects_from suspects i s lt is =
+    at_drop_more (λ (l : List Suspect). suspects_view l) suspects i s lt
+    ∙ ap (λ (x : Suspect). suspect_view x ∷ suspects_view (drop (i + 1) suspects)) (sym is)
+
 pub sents_from : (sent : List SentChanges) (i : ℕ) (s : SentChanges) → i < length sent
     → s ≡ get_or sent i s
-    → edits_in (sents_view (drop i sent))
-    ≡ edits_of s.changes.items ∷ edits_in (sents_view (drop (i + 1) sent))
+    → sents_view (drop i sent) ≡ sent_view s ∷ sents_view (drop (i + 1) sent)
 sents_from sent i s lt is =
-    at_drop_more (λ (l : List SentChanges). edits_in (sents_view l)) sent i s lt
-    ∙ ap (λ (x : SentChanges). edits_of x.changes.items
-    ∷ edits_in (sents_view (drop (i + 1) sent))) (sym is)
+    at_drop_more (λ (l : List SentChanges). sents_view l) sent i s lt
+    ∙ ap (λ (x : SentChanges). sent_view x ∷ sents_view (drop (i + 1) sent)) (sym is)
+
+-- one more of them, as it is listed
+pub one_listed : (done : List Suspect) (s : Suspect) (all here more : List SentEdits)
+    → suspects_view done ++ here ≡ all → here ≡ suspect_view s ∷ more
+    → suspects_view (done ++ s ∷ []) ++ more ≡ all
+one_listed done s all here more is next =
+    ap (λ (l : List SentEdits). l ++ more) (map-append suspect_view done (s ∷ []))
+    ∙ append_assoc (suspects_view done) (suspect_view s ∷ []) more
+    ∙ ap (λ (l : List SentEdits). suspects_view done ++ l) (sym next) ∙ is
 
 pub prefix_len-map : {X Y : Type 0} (f : X → Y) (p : Y → Bool) (xs : List X)
     → prefix_len p (map f xs) ≡ prefix_len (λ x. p (f x)) xs
@@ -349,10 +210,10 @@ reached_view limit sent =
     ∙ ap (λ n. take n (sents_view sent)) (sym (prefix_len-map sent_view (is_reached limit) sent))
 
 -- none or some
-pub no_sents : (sent : List SentChanges) → length sent ≡ 0 → edits_in (sents_view sent) ≡ []
+pub no_sents : (sent : List SentChanges) → length sent ≡ 0 → sents_view sent ≡ []
 no_sents [] none = refl
 no_sents (s ∷ sent) none = absurd (omega arith)
 
-pub some_sents : (sent : List SentChanges) → 0 < length sent → edits_in (sents_view sent) ≡ [] → ⊥
+pub some_sents : (sent : List SentChanges) → 0 < length sent → sents_view sent ≡ [] → ⊥
 some_sents [] some none = omega arith
 some_sents (s ∷ sent) some none = cc none

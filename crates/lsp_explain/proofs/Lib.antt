@@ -13,7 +13,7 @@ pub mod Standard
 pub mod Quiet
 pub mod DocumentNoting
 pub mod Misfitting
-pub mod Naming
+pub mod NamedDocuments
 pub mod Refusing
 pub mod OtherSpellings
 pub mod Changing
@@ -27,6 +27,8 @@ pub mod BasesHeld
 pub mod Fitting
 pub mod MadeVersions
 pub mod AsciiLines
+pub mod ToldFacts
+pub mod Rearranging
 pub mod Trails
 pub mod Ending
 pub mod Comparing

@@ -20,7 +20,7 @@ use Rattle.lsp_docs.specs.Documents.{Terms, Version, held, is_at}
 use Rattle.lsp_docs.specs.Rules.{AreAccepted, AreAcceptedFrom, call_rule}
 use Rattle.lsp_docs.specs.Snapshots.{kept, past}
 use Rattle.lsp_explain.specs.Bases.{base_in, base_number, later, numbered, sent_since}
-use Rattle.lsp_explain.specs.Fits.{edits_in, is_reached, reached}
+use Rattle.lsp_explain.specs.Fits.{is_reached, reached}
 use Rattle.lsp_explain.specs.SentEdits.{SentEdits, sent_edits}
 use Rattle.lsp_explain.specs.declared.suspects.Until.TheVariants as until
 use Rattle.lsp_explain.specs.declared.trail.mark.VersionEvent.{VersionEvent}
@@ -37,16 +37,16 @@ pub record IsMade (limit : ℕ) (t : Text) (edits : List Edit) (u : Text) : Type
   pub made : applied limit encoding t edits ≡ Ok u
 
 -- those of several messages, one after another
-abbrev pub AreMade : ℕ → Text → List (List Edit) → Text → Type 0
+abbrev pub AreMade : ℕ → Text → List SentEdits → Text → Type 0
 AreMade limit t [] u = t ≡ u
-AreMade limit t (edits ∷ more) u = (w : Text) × (IsMade limit t edits w × AreMade limit w more u)
+AreMade limit t (s ∷ more) u = (w : Text) × (IsMade limit t s.edits w × AreMade limit w more u)
 
-pub made_one_more : (limit : ℕ) (t u w : Text) (all : List (List Edit)) (edits : List Edit)
-    → AreMade limit t all u → IsMade limit u edits w → AreMade limit t (all ++ edits ∷ []) w
-made_one_more limit t u w [] edits are is =
-    (w, (subst (λ (x : Text). IsMade limit x edits w) (sym are) is, refl))
-made_one_more limit t u w (one ∷ all) edits (x, (first, rest)) is =
-    (x, (first, made_one_more limit x u w all edits rest is))
+pub made_one_more : (limit : ℕ) (t u w : Text) (all : List SentEdits) (s : SentEdits)
+    → AreMade limit t all u → IsMade limit u s.edits w → AreMade limit t (all ++ s ∷ []) w
+made_one_more limit t u w [] s are is =
+    (w, (subst (λ (x : Text). IsMade limit x s.edits w) (sym are) is, refl))
+made_one_more limit t u w (one ∷ all) s (x, (first, rest)) is =
+    (x, (first, made_one_more limit x u w all s rest is))
 
 -- ---- versions
 
@@ -136,7 +136,7 @@ within-later n m (s ∷ sent) within =
 -- from a version to one that is not before it
 pub record IsReached (limit : ℕ) (v w : Version) (sent : List SentEdits) : Type 0 where
   pub within : int_lt w.number v.number ≡ false
-  pub made : AreMade limit v.text (edits_in (reached (until.Version w.number) sent)) w.text
+  pub made : AreMade limit v.text (reached (until.Version w.number) sent) w.text
 
 not_above : (a b c : ℤ) → int_lt a b ≡ true → int_lt c b ≡ false → int_lt c a ≡ false
 not_above a b c p q = grind (arith, ints)
@@ -145,7 +145,7 @@ itself_reached : (limit : ℕ) (v : Version) (sent : List SentEdits) → AreAbov
     → IsReached limit v v sent
 itself_reached limit v sent above = record {
   within = itself v.number;
-  made = subst (λ (l : List SentEdits). AreMade limit v.text (edits_in l) v.text)
+  made = subst (λ (l : List SentEdits). AreMade limit v.text l v.text)
       (sym (reached_above v.number sent above)) refl;
 }
 
@@ -160,7 +160,7 @@ made_up_to limit v w (x ∷ ws) (s ∷ sent) are (inr behind) =
     let rest = made_up_to limit x w ws sent are.1 behind in
     record {
       within = not_above v.number x.number w.number are.0.rises rest.within;
-      made = subst (λ (l : List SentEdits). AreMade limit v.text (edits_in l) w.text)
+      made = subst (λ (l : List SentEdits). AreMade limit v.text l w.text)
           (sym (reached_one w.number s sent
           (ap (int_lt w.number) are.0.number ∙ rest.within)))
           (x.text, (are.0.made, rest.made));
@@ -172,15 +172,15 @@ made_up_to limit v w (x ∷ ws) (s ∷ sent) are (inr behind) =
 pub record IsMadeFrom (limit : ℕ) (v base w : Version) (sent : List SentEdits) : Type 0 where
   pub within : int_lt base.number v.number ≡ false
   pub made : (int_lt w.number base.number ≡ true)
-      ⊎ AreMade limit base.text (edits_in (reached (until.Version w.number)
-      (later base.number sent))) w.text
+      ⊎ AreMade limit base.text (reached (until.Version w.number)
+      (later base.number sent)) w.text
 
 from_first : (limit : ℕ) (v w : Version) (ws : List Version) (sent : List SentEdits)
     → AreChained limit v ws sent → Among w (v ∷ ws) → IsMadeFrom limit v v w sent
 from_first limit v w ws sent are among = record {
   within = itself v.number;
   made = inr (subst (λ (l : List SentEdits).
-      AreMade limit v.text (edits_in (reached (until.Version w.number) l)) w.text)
+      AreMade limit v.text (reached (until.Version w.number) l) w.text)
       (sym (later_all v.number sent (chained-above limit v ws sent are)))
       (made_up_to limit v w ws sent are among).made);
 }
@@ -203,14 +203,14 @@ from_behind limit base v w x ws s sent next rest among =
         (ap (int_lt base.number) next.number ∙ least)
 
     by_place : Among w (v ∷ x ∷ ws) → (int_lt w.number base.number ≡ true)
-        ⊎ AreMade limit base.text (edits_in (reached (until.Version w.number)
-        (later base.number (s ∷ sent)))) w.text
+        ⊎ AreMade limit base.text (reached (until.Version w.number)
+        (later base.number (s ∷ sent))) w.text
     by_place (inl own) =
         inl (ap (λ (y : Version). int_lt y.number base.number) own
         ∙ earlier v.number x.number base.number next.rises least)
     by_place (inr behind) =
         subst (λ (l : List SentEdits). (int_lt w.number base.number ≡ true)
-        ⊎ AreMade limit base.text (edits_in (reached (until.Version w.number) l)) w.text)
+        ⊎ AreMade limit base.text (reached (until.Version w.number) l) w.text)
         (sym same) (rest w behind).made
 
 made_from : (limit : ℕ) (m : ℤ) (base v : Version) (ws : List Version) (sent : List SentEdits)
@@ -400,8 +400,8 @@ pub made_since : (terms : Terms) (uri : Bytes) (before : List Call) (equal : Opt
     → base_in equal (past terms uri before ++ v ∷ []) ≡ Some base
     → Among w (past terms uri before ++ v ∷ [])
     → (int_lt w.number base.number ≡ true)
-    ⊎ AreMade terms.limit base.text (edits_in (reached (until.Version w.number)
-    (later base.number (sent_since uri before)))) w.text
+    ⊎ AreMade terms.limit base.text (reached (until.Version w.number)
+    (later base.number (sent_since uri before))) w.text
 made_since terms uri before equal base v w accepted now is among =
     let are = have_versions terms uri before accepted v now in
     let found = base_found equal (past terms uri before ++ v ∷ []) base is in

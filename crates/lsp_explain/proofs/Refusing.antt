@@ -42,7 +42,7 @@ use Rattle.lsp_explain.specs.declared.notes.refusals.Refusals.{Refusals}
 use Rattle.lsp_explain.specs.declared.notes.requests.Request as code
 use Rattle.lsp_explain.proofs.DocumentNoting.{first_notes_with}
 use Rattle.lsp_explain.proofs.History.{held-push, kept_more}
-use Rattle.lsp_explain.proofs.Naming.{names_so}
+use Rattle.lsp_explain.proofs.NamedDocuments.{names_so}
 use Rattle.lsp_explain.proofs.Standard.{on_document as said_on}
 
 -- ---- one event more

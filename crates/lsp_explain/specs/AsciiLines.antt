@@ -13,7 +13,9 @@ use Rattle.lsp_replay.specs.declared.heard.EventPlace.{EventPlace}
 use Rattle.lsp_verdict.specs.Event.{calls, Event}
 use Rattle.lsp_verdict.specs.Offences.{kept_of}
 use Rattle.lsp_explain.specs.Bases.{base_at, sent_since}
-use Rattle.lsp_explain.specs.Fits.{agreed_encoding, fits, suspected}
+use Rattle.lsp_explain.specs.Fits.{suspected}
+use Rattle.lsp_explain.specs.SentEdits.{SentEdits}
+use Rattle.lsp_explain.specs.Told.{agreed_encoding, fits}
 use Rattle.lsp_explain.specs.Traced.{until_of}
 use Rattle.lsp_explain.specs.declared.suspects.Until.{Until}
 
@@ -34,11 +36,11 @@ AreInAscii limit enc t (c ∷ cs) =
     × IfOk (changed enc t c.span c.text limit) (λ (u : Text). AreInAscii limit enc u cs)
 
 -- and for those of several messages
-abbrev pub AllInAscii : ℕ → Encoding → Text → List (List Edit) → Type 0
+abbrev pub AllInAscii : ℕ → Encoding → Text → List SentEdits → Type 0
 AllInAscii limit enc t [] = Unit {0}
-AllInAscii limit enc t (edits ∷ more) =
-    AreInAscii limit enc t edits
-    × IfOk (applied limit enc t edits) (λ (u : Text). AllInAscii limit enc u more)
+AllInAscii limit enc t (s ∷ more) =
+    AreInAscii limit enc t s.edits
+    × IfOk (applied limit enc t s.edits) (λ (u : Text). AllInAscii limit enc u more)
 
 -- **each line that a position of a suspect falls in is ASCII**, where a call comes after these
 -- events

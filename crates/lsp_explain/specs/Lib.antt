@@ -12,6 +12,8 @@ pub mod Conversations
 pub mod SentEdits
 pub mod Bases
 pub mod Fits
+pub mod Rearranged
+pub mod Told
 pub mod Traced
 pub mod AsciiLines
 pub mod Trails

@@ -34,7 +34,7 @@ use Rattle.lsp_session.specs.Entry.{Entry}
 use Rattle.lsp_session.specs.Handshake.{phase}
 use Rattle.lsp_session.specs.Requests.{open_requests}
 use Rattle.lsp_session.specs.Sent.{other_side}
-use Rattle.lsp_explain.specs.Fits.{fits_facts, most_named}
+use Rattle.lsp_explain.specs.Fits.{most_named}
 use Rattle.lsp_explain.specs.History.{last_ones, OnDocument, KeptCall}
 use Rattle.lsp_explain.specs.Marking.{next_rank, rank_or, agreed, last_setter, recent, steps}
 use Rattle.lsp_explain.specs.Marking.{waiting_for}
@@ -47,6 +47,7 @@ use Rattle.lsp_explain.specs.LastChanges.{SentChange, has_changes, last_changes}
 use Rattle.lsp_explain.specs.declared.trail.openings.Closing.{Closing}
 use Rattle.lsp_explain.specs.declared.trail.openings.Closing.TheVariants as closing
 use Rattle.lsp_explain.specs.Asking.{Numbered, answered, asked, numbered, sents, since}
+use Rattle.lsp_explain.specs.Told.{told_facts}
 
 -- ---- ids that differ in their type alone
 
@@ -285,11 +286,11 @@ abbrev pub apart_facts : List KeptCall → Until → List Fact
 apart_facts done limit =
     equal_facts (agreed done) ++ suspect_facts (agreed done) limit (recent done)
 
--- with the encodings in which these give the text that the editor had
+-- with what would make of these the text that the editor had
 abbrev pub apart_said : Terms → List Event → ℕ → Until → Call → List Fact
 apart_said terms before rule limit call =
     apart_facts (steps terms (uri_of call) before) limit
-    ++ fits_facts terms before rule limit call
+    ++ told_facts terms before rule limit call
 
 -- what brought texts apart, where a call, the event of this place, breaks this rule after these:
 -- under 702 the snapshots that differ come first

@@ -1,87 +1,64 @@
-//! In which other encodings the suspects make the text that the editor had.
-ghost use Rattle.std.specs.Prelude.{◌≡◌, ◌≤◌, ◌++◌, ◌∷◌, [], ℤ, List, Some, true, IfOk, OnOk};
-ghost use Rattle.std.specs.Prelude.{MatchOption, length, option_map};
+//! What the suspects make of a text, and in which other encodings they make the one that the editor
+//! had.
+ghost use Rattle.std.specs.Prelude.{◌≡◌, ◌≤◌, ◌++◌, ◌∷◌, [], true, IfOk, OnOk};
+ghost use Rattle.std.specs.Prelude.{MatchOption, length};
 ghost use Rattle.std.specs.List.{prefix_len};
-ghost use Rattle.std.specs.Str.{chars};
-ghost use Rattle.lsp_docs.specs.Rules.{call_rule};
 ghost use Rattle.lsp_docs.specs.Taken.{call_view};
-ghost use Rattle.lsp_docs.specs.Tried.{IsTried};
 ghost use Rattle.lsp_facts.specs.DocumentFacts.{fits_fact};
-ghost use Rattle.lsp_replay.specs.Tries.{made_in};
 ghost use Rattle.lsp_text.specs.Changes.{edits_of};
-ghost use Rattle.lsp_verdict.specs.Event.{calls, Event};
-ghost use Rattle.lsp_verdict.specs.Offences.{kept_of};
 ghost use Rattle.lsp_explain.specs.Bases.{sent_in};
 ghost use Rattle.lsp_explain.specs.SentEdits.{are_few, sent_edits, sent_view, sents_view};
 ghost use Rattle.lsp_explain.specs.Fits as spec;
-ghost use Rattle.lsp_explain.specs.Fits.{suspected_view, text_if};
-ghost use Rattle.lsp_explain.specs.Trails.{StandsAfter, terms_in};
+ghost use Rattle.lsp_explain.specs.Fits.{suspected_view, suspects_view, text_if};
 
 use crate::suspects::{MOST_NAMED, Until};
-use crate::trail::{Base, Past, SentChanges};
-use lsp_docs::{Call, Docs, Tried, has_text};
-use lsp_facts::{Facts, texts_of};
+use crate::trail::{Base, SentChanges};
+use lsp_docs::{Call, Docs, has_text};
+use lsp_facts::Facts;
 use lsp_rpc::{Encoding, Result};
 use lsp_text::{Lined, TextStore, change_all};
 use lsp_types::{Change, Fault, Memory};
+use std::alloc::Global;
 
-/// The changes that may have made texts differ: those of earlier messages, and of the call that
-/// offends.
+/// A message that may have made texts differ: its changes, and the version that it set or would
+/// set.
 #[derive(Clone, Copy)]
-struct Suspected<'a> {
-    sent: &'a [SentChanges],
-    own: Option<&'a [Change]>,
+pub(crate) struct Suspect<'a> {
+    pub(crate) version: i32,
+    pub(crate) changes: &'a [Change],
 }
 
-/// Adds the encodings, other than the agreed one, in which the suspects make the text that the
-/// editor had, where a call breaks 608 or 702. The past is of the events before it, and this was
-/// tried of its changes.
-///
-/// # Errors
-/// `Memory` where memory was refused.
-pub(crate) fn push_fits(
-    facts: &mut Facts,
-    past: Past<'_>,
-    call: Call<'_>,
-    rule: u16,
-    until: Until,
-    tried: Option<&Tried<Lined>>,
-) -> Result<()>
-    ensures { OnOk result ((before : List Event) → StandsAfter past.entry before
-        → call_rule (terms_in past.entry) (calls (kept_of (terms_in past.entry) before))
-        (call_view call.entry) ≡ Some rule
-        → IsTried (terms_in past.entry) (calls (kept_of (terms_in past.entry) before))
-        (call_view call.entry) (made_in (option_map (λ t. t.now) tried.entry))
-        → facts.new ≡ facts.old
-        ++ spec.fits_facts (terms_in past.entry) before rule until (call_view call.entry)) }
-{
-    let Past { held, trail } = past;
-    let Some(base) = trail.bases.base_of(call.uri()) else {
-        return Ok(());
-    };
-    let Some(text) = &base.text else {
-        return Ok(());
-    };
-    let Some(suspected) = suspects_of(base, until, call) else {
-        return Ok(());
-    };
-    let Some(texts) = texts_of(&held.docs, call, rule, tried) else {
-        return Ok(());
-    };
-    let agreed = held.session.encoding().unwrap_or(Encoding::Utf16);
-    push_fitting(facts, &held.docs, agreed, text, suspected, texts.in_editor)
+/// What the suspects are tried on: they are to make the other text of this one.
+#[derive(Clone, Copy)]
+pub(crate) struct Trial<'a> {
+    pub(crate) docs: &'a Docs<Lined>,
+    /// The encoding that was agreed.
+    pub(crate) encoding: Encoding,
+    pub(crate) text: &'a Lined,
+    pub(crate) other: &'a str,
+}
+
+/// The messages that may have made texts differ: earlier ones, and the call that offends.
+#[derive(Clone, Copy)]
+pub(crate) struct Suspected<'a> {
+    sent: &'a [SentChanges],
+    own: Option<Suspect<'a>>,
 }
 
 /// The suspects, if there is one at least and not more than are named. None either, if the changes
 /// since the base, with those of the call, are more or larger than is held.
-fn suspects_of<'a>(base: &'a Base, until: Until, call: Call<'a>) -> Option<Suspected<'a>>
+pub(crate) fn suspects_of<'a>(base: &'a Base, until: Until, call: Call<'a>) -> Option<Suspected<'a>>
     ensures { are_few (sent_in base.now) ≡ true
         → MatchOption result (spec.suspects_in until (sent_in base.now) (call_view call.entry) ≡ [])
         (spec.AreSuspects (spec.suspects_in until (sent_in base.now) (call_view call.entry))) }
 {
     let sent = up_to(until, base.sent.as_slice());
     match call {
-        Call::Changes { changes, .. } => with_own(base, sent, changes),
+        Call::Changes {
+            version,
+            changes,
+            ..
+        } => with_own(base, sent, version, changes),
         _ => without_own(sent),
     }
 }
@@ -90,11 +67,12 @@ fn suspects_of<'a>(base: &'a Base, until: Until, call: Call<'a>) -> Option<Suspe
 fn with_own<'a>(
     base: &'a Base,
     sent: &'a [SentChanges],
+    version: i32,
     changes: &'a [Change],
 ) -> Option<Suspected<'a>>
-    ensures { (number : ℤ) → spec.AreNamed (are_few (sent_in base.now
-        ++ sent_edits number (edits_of changes.now) ∷ [])) (spec.edits_in (sents_view sent.now)
-        ++ edits_of changes.now ∷ []) result }
+    ensures { spec.AreNamed (are_few (sent_in base.now
+        ++ sent_edits version (edits_of changes.now) ∷ []))
+        (sents_view sent.now ++ sent_edits version (edits_of changes.now) ∷ []) result }
 {
     if sent.len() >= MOST_NAMED {
         return None;
@@ -102,13 +80,13 @@ fn with_own<'a>(
     if !base.has_room(changes) {
         return None;
     }
-    let own = Some(changes);
+    let own = Some(Suspect { version, changes });
     Some(Suspected { sent, own })
 }
 
 /// These messages alone.
 fn without_own<'a>(sent: &'a [SentChanges]) -> Option<Suspected<'a>>
-    ensures { spec.AreNamed true (spec.edits_in (sents_view sent.now)) result }
+    ensures { spec.AreNamed true (sents_view sent.now) result }
 {
     if sent.is_empty() {
         return None;
@@ -143,29 +121,53 @@ fn is_up_to(until: Until, one: &SentChanges) -> bool
     }
 }
 
-/// Adds the encodings, other than the agreed one, in which the suspects make this text of one.
-fn push_fitting(
+/// The suspects, in order.
+pub(crate) fn listed<'a>(alloc: Global, suspected: Suspected<'a>) -> Result<Vec<Suspect<'a>>>
+    ensures { IfOk result (λ all. suspects_view all.items ≡ suspected_view suspected.entry) }
+{
+    let Suspected { sent, own } = suspected;
+    let mut suspects = sent_ones(alloc, sent)?;
+    match own {
+        Some(own) => {
+            suspects.push(own)?;
+            Ok(suspects)
+        }
+        None => Ok(suspects),
+    }
+}
+
+/// Those that were sent earlier.
+fn sent_ones<'a>(alloc: Global, sent: &'a [SentChanges]) -> Result<Vec<Suspect<'a>>>
+    ensures { IfOk result (λ all. suspects_view all.items ≡ sents_view sent.now) }
+{
+    let mut suspects = Vec::new(alloc);
+    for one in sent {
+        let version = one.version;
+        let changes = one.changes.as_slice();
+        suspects.push(Suspect { version, changes })?;
+    }
+    Ok(suspects)
+}
+
+/// Adds the encodings, other than the agreed one, in which the suspects make the other text.
+pub(crate) fn push_fitting(
     facts: &mut Facts,
-    docs: &Docs<Lined>,
-    agreed: Encoding,
-    text: &Lined,
-    suspected: Suspected<'_>,
-    other: &str,
+    trial: Trial<'_>,
+    suspects: &[Suspect<'_>],
 ) -> Result<()>
     ensures { OnOk result (facts.new ≡ facts.old
-        ++ fits_fact (spec.fitting docs.now.terms agreed text.now.content
-        (suspected_view suspected.entry) (chars other.now))) }
+        ++ fits_fact (spec.fitting_by trial.entry (suspects_view suspects.now))) }
 {
-    let (first, second) = others(agreed);
+    let (first, second) = others(trial.encoding);
     let mut names = Vec::new(facts.alloc());
-    push_if_given(&mut names, docs, first, text, suspected, other)?;
-    push_if_given(&mut names, docs, second, text, suspected, other)?;
+    push_if_given(&mut names, trial, first, suspects)?;
+    push_if_given(&mut names, trial, second, suspects)?;
     facts.fitting(names.as_slice())
 }
 
 /// The encodings other than this one.
 fn others(encoding: Encoding) -> (Encoding, Encoding)
-    ensures { spec.listed result ≡ spec.other_encodings encoding }
+    ensures { spec.both result ≡ spec.other_encodings encoding }
 {
     match encoding {
         Encoding::Utf8 => (Encoding::Utf16, Encoding::Utf32),
@@ -174,71 +176,52 @@ fn others(encoding: Encoding) -> (Encoding, Encoding)
     }
 }
 
-/// Adds an encoding, if the suspects make this text of one in it.
+/// Adds an encoding, if the suspects make the other text in it.
 fn push_if_given(
     names: &mut Vec<Encoding>,
-    docs: &Docs<Lined>,
+    trial: Trial<'_>,
     encoding: Encoding,
-    text: &Lined,
-    suspected: Suspected<'_>,
-    other: &str,
+    suspects: &[Suspect<'_>],
 ) -> Result<()>
     ensures { OnOk result (names.new.items ≡ names.old.items
-        ++ spec.if_given docs.now.terms text.now.content (suspected_view suspected.entry)
-        (chars other.now) encoding) }
+        ++ spec.if_given trial.entry (suspects_view suspects.now) encoding) }
 {
-    if gives(docs, encoding, text, suspected, other)? {
+    if gives(trial, encoding, suspects)? {
         names.push(encoding)?;
     }
     Ok(())
 }
 
-/// Whether the suspects make this text of one, where columns count units of the encoding.
-fn gives(
-    docs: &Docs<Lined>,
-    encoding: Encoding,
-    text: &Lined,
-    suspected: Suspected<'_>,
-    other: &str,
-) -> Result<bool>
-    ensures { IfOk result (λ is_given. is_given ≡ spec.is_given docs.now.terms text.now.content
-        (suspected_view suspected.entry) (chars other.now) encoding) }
+/// Whether messages make the other text, where columns count units of this encoding.
+pub(crate) fn gives(trial: Trial<'_>, encoding: Encoding, suspects: &[Suspect<'_>]) -> Result<bool>
+    ensures { IfOk result (λ is_given. is_given
+        ≡ spec.is_given_by trial.entry (suspects_view suspects.now) encoding) }
 {
+    let Trial {
+        docs,
+        text,
+        other,
+        ..
+    } = trial;
     let mut made = text.copy(docs.alloc())?;
-    if !make_all(&mut made, encoding, suspected, docs.limit())? {
+    if !make_all(&mut made, encoding, suspects, docs.limit())? {
         return Ok(false);
     }
     Ok(has_text(docs.line_ends(), &made, other))
 }
 
-/// Makes the changes of the suspects, one after another. Answers whether all could be made.
+/// Makes the changes of messages, one after another. Answers whether all could be made.
 fn make_all(
     made: &mut Lined,
     encoding: Encoding,
-    suspected: Suspected<'_>,
+    suspects: &[Suspect<'_>],
     limit: u64,
 ) -> Result<bool>
     ensures { IfOk result (λ all. text_if all made.new.content
-        ≡ spec.made_by limit encoding made.old.content (suspected_view suspected.entry)) }
+        ≡ spec.made_by limit encoding made.old.content (suspects_view suspects.now)) }
 {
-    let Suspected { sent, own } = suspected;
-    if !make_sent(made, encoding, sent, limit)? {
-        return Ok(false);
-    }
-    match own {
-        Some(changes) => make(made, encoding, changes, limit),
-        None => Ok(true),
-    }
-}
-
-/// Makes the changes of messages, one after another. Answers whether all could be made.
-fn make_sent(made: &mut Lined, encoding: Encoding, sent: &[SentChanges], limit: u64) -> Result<bool>
-    ensures { IfOk result (λ all. text_if all made.new.content
-        ≡ spec.made_by limit encoding made.old.content
-        (spec.edits_in (sents_view sent.now))) }
-{
-    for one in sent {
-        if !make(made, encoding, one.changes.as_slice(), limit)? {
+    for suspect in suspects {
+        if !make(made, encoding, suspect.changes, limit)? {
             return Ok(false);
         }
     }

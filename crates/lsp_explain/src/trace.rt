@@ -26,8 +26,8 @@ ghost use Rattle.lsp_explain.specs.Trails.{StandsAfter, terms_in};
 ghost use Rattle.lsp_explain.specs.Traced as spec;
 ghost use Rattle.lsp_explain.specs.Traced.{twin};
 
-use crate::fits::push_fits;
 use crate::suspects::{Until, push_suspects};
+use crate::told::push_told;
 use crate::trail::{Conversation, Marks, Past, VersionEvent};
 use crate::twins::twin_of;
 use crate::unopened::trace_unopened;
@@ -181,11 +181,11 @@ fn trace_call(
         let snapshots = differing(past, until, place, call, tried)?;
         push_snapshots(facts, snapshots.as_slice())?;
         trace_texts(facts, marks, uri, until)?;
-        return push_fits(facts, past, call, rule, until, tried);
+        return push_told(facts, past, call, rule, until, tried);
     }
     if rule == rules::SAVED_TEXT_DIFFERS {
         trace_texts(facts, marks, uri, until)?;
-        return push_fits(facts, past, call, rule, until, tried);
+        return push_told(facts, past, call, rule, until, tried);
     }
     Ok(())
 }

@@ -13,7 +13,7 @@ use Rattle.lsp_explain.specs.DocumentNotes.{notes_view, with_note}
 use Rattle.lsp_explain.specs.Openings.{AreOpenings}
 use Rattle.lsp_explain.specs.Naming.{if_unopened}
 use Rattle.lsp_explain.specs.Spellings.{HoldsOthers, spelling_note}
-use Rattle.lsp_explain.proofs.Naming.{named_so, unnamed}
+use Rattle.lsp_explain.proofs.NamedDocuments.{named_so, unnamed}
 use Rattle.lsp_explain.proofs.OtherSpellings.{calls_after, named_none, named_one, others_stay}
 use Rattle.lsp_explain.proofs.OtherSpellings.{own_reads}
 use Rattle.lsp_explain.proofs.Trails.{is_message, no_content}

@@ -8,17 +8,17 @@ use Rattle.lsp_docs.specs.Documents.{held}
 use Rattle.lsp_docs.specs.Snapshots.{kept, past}
 use Rattle.lsp_docs.specs.Taken.{call_view}
 use Rattle.lsp_docs.proofs.Past.{nothing-past}
-use Rattle.lsp_facts.specs.DocumentFacts.{fits_fact}
 use Rattle.lsp_facts.specs.TwoTexts.{texts_of}
 use Rattle.lsp_verdict.specs.Event.{calls, sent_in}
 use Rattle.lsp_verdict.specs.Offences.{kept_of}
 use Rattle.lsp_explain.specs.Bases.{HoldsAfter, base_at, held_of, sent_since}
-use Rattle.lsp_explain.specs.Fits.{agreed_encoding, fitting, fitting_of, suspected, suspects_in}
-use Rattle.lsp_explain.specs.Marking.{agreed, steps}
+use Rattle.lsp_explain.specs.Fits.{suspected, suspects_in, suspects_view}
+use Rattle.lsp_explain.specs.Marking.{agreed, recent, steps}
+use Rattle.lsp_explain.specs.Told.{agreed_encoding, setters_until, told, told_of}
 use Rattle.lsp_explain.specs.Trails.{terms_in}
-use Rattle.lsp_explain.proofs.Fitting.{known, no_text_fits, none_differ, none_fits, nothing_fits}
-use Rattle.lsp_explain.proofs.Fitting.{some_fit, unfit}
-use Rattle.lsp_explain.proofs.fits.push_fits.Goals as goal
+use Rattle.lsp_explain.proofs.ToldFacts.{known, no_text_told, none_differ, none_told, nothing_told}
+use Rattle.lsp_explain.proofs.ToldFacts.{some_told, untold}
+use Rattle.lsp_explain.proofs.told.push_told.Goals as goal
 
 -- nothing is held of the document
 pub returns-in_default : goal.returns-in_default
@@ -27,12 +27,14 @@ returns-in_default c = λ before stands breaks tried.
     let call = call_view c.args.call in
     let uri = uri_of call in
     let made = calls (kept_of terms before) in
-    let equal = agreed (steps terms uri before) in
+    let done = steps terms uri before in
+    let equal = agreed done in
+    let setters = setters_until c.args.until (recent done) in
     let nothing = c.in_default.ensures
     ∙ ap (held_of c.args.past.trail.now.bases.map.entries) c.uri.ensures in
-    unfit c.args.facts.now terms before c.args.rule c.args.until call
-    (nothing_fits terms equal (past terms uri made) (kept terms uri made) (sent_since uri made)
-    (agreed_encoding (kept_of terms before)) c.args.until call (held terms uri made)
+    untold c.args.facts.now terms before c.args.rule c.args.until call
+    (nothing_told terms equal (past terms uri made) (kept terms uri made) (sent_since uri made)
+    (agreed_encoding (kept_of terms before)) c.args.until setters call (held terms uri made)
     (texts_of terms made call c.args.rule) (nothing-past terms uri made)
     (subst (HoldsAfter terms uri made equal) (sym nothing) (stands.trail.based uri)))
 
@@ -43,13 +45,15 @@ returns-in_default-text c = λ before stands breaks tried.
     let call = call_view c.args.call in
     let uri = uri_of call in
     let made = calls (kept_of terms before) in
-    let equal = agreed (steps terms uri before) in
+    let done = steps terms uri before in
+    let equal = agreed done in
+    let setters = setters_until c.args.until (recent done) in
     let base = c.in-Some.base.now in
     let is = c.in-Some.ensures
     ∙ ap (held_of c.args.past.trail.now.bases.map.entries) c.uri.ensures in
-    unfit c.args.facts.now terms before c.args.rule c.args.until call
-    (no_text_fits terms equal (past terms uri made) (kept terms uri made) (sent_since uri made)
-    (agreed_encoding (kept_of terms before)) c.args.until call (held terms uri made) base
+    untold c.args.facts.now terms before c.args.rule c.args.until call
+    (no_text_told terms equal (past terms uri made) (kept terms uri made) (sent_since uri made)
+    (agreed_encoding (kept_of terms before)) c.args.until setters call (held terms uri made) base
     (texts_of terms made call c.args.rule)
     (ap (option_map (λ t. t.content)) c.in_default-text.is)
     (subst (HoldsAfter terms uri made equal) (sym is) (stands.trail.based uri)))
@@ -61,7 +65,9 @@ returns-in_default-suspects_of c = λ before stands breaks tried.
     let call = call_view c.args.call in
     let uri = uri_of call in
     let made = calls (kept_of terms before) in
-    let equal = agreed (steps terms uri before) in
+    let done = steps terms uri before in
+    let equal = agreed done in
+    let setters = setters_until c.args.until (recent done) in
     let sent = sent_since uri made in
     let limit = c.args.until in
     let texts = texts_of terms made call c.args.rule in
@@ -72,9 +78,9 @@ returns-in_default-suspects_of c = λ before stands breaks tried.
     (ap (option_map (λ t. t.content)) c.in-Some-text.is)
     (subst (HoldsAfter terms uri made equal) (sym is) (stands.trail.based uri)) in
     let enc = agreed_encoding (kept_of terms before) in
-    unfit c.args.facts.now terms before c.args.rule limit call
-    (ap (λ o. fitting_of terms enc limit sent call o texts) k.is
-    ∙ none_fits terms enc limit sent call k.base texts
+    untold c.args.facts.now terms before c.args.rule limit call
+    (ap (λ o. told_of terms enc limit setters sent call o texts) k.is
+    ∙ none_told terms enc limit setters sent call k.base texts
     (ap (λ l. suspects_in limit l call) (sym k.all) ∙ c.in_default-suspects_of.ensures k.few))
 
 -- there are no two texts
@@ -85,24 +91,27 @@ returns-in_default-texts_of c = λ before stands breaks tried.
     let uri = uri_of call in
     let made = calls (kept_of terms before) in
     let sent = sent_since uri made in
+    let setters = setters_until c.args.until (recent (steps terms uri before)) in
     let enc = agreed_encoding (kept_of terms before) in
     let base = base_at terms before uri in
-    unfit c.args.facts.now terms before c.args.rule c.args.until call
-    (ap (fitting_of terms enc c.args.until sent call base)
+    untold c.args.facts.now terms before c.args.rule c.args.until call
+    (ap (told_of terms enc c.args.until setters sent call base)
     (sym (c.in_default-texts_of.ensures made stands.holds.called (λ is. breaks) (λ is. tried)))
-    ∙ none_differ terms enc c.args.until sent call base)
+    ∙ none_differ terms enc c.args.until setters sent call base)
 
 pub returns : goal.returns
-returns c = on_ok_weaker c.push_fitting.result (λ said before stands breaks tried.
+returns c = on_ok_weaker c.push_tried.result (λ said before stands breaks tried.
     let old = c.args.facts.now in
     let terms = terms_in c.args.past in
     let call = call_view c.args.call in
     let uri = uri_of call in
     let kept_events = kept_of terms before in
     let made = calls kept_events in
-    let equal = agreed (steps terms uri before) in
+    let done = steps terms uri before in
+    let equal = agreed done in
     let sent = sent_since uri made in
     let limit = c.args.until in
+    let setters = setters_until limit (recent done) in
     let is = c.in-Some.ensures
     ∙ ap (held_of c.args.past.trail.now.bases.map.entries) c.uri.ensures in
     let k = known terms equal (past terms uri made) (kept terms uri made) sent
@@ -114,14 +123,18 @@ returns c = on_ok_weaker c.push_fitting.result (λ said before stands breaks tri
     let suspects = c.in-Some-suspects_of.ensures k.few in
     let all = ap (λ l. suspects_in limit l call) k.all in
     let edits = suspected k.base limit sent call in
-    let same_enc = c.unwrap_or-agreed.ensures
+    let same_enc = c.unwrap_or.ensures
     ∙ ap (λ o. unwrap_or o Utf16) (c.encoding.ensures (sent_in kept_events) stands.holds.sent) in
-    let same_edits = suspects.are ∙ all in
+    let same_edits = ap suspects_view c.as_slice.ensures.value ∙ c.in_ok-suspects.ensures
+    ∙ suspects.are ∙ all in
+    let same_setters = c.as_slice-2.ensures.value
+    ∙ c.in_ok-setters.ensures terms before stands.trail.marked
+    ∙ ap (λ u. setters_until limit (recent (steps terms u before))) c.uri-2.ensures in
     said
-    ∙ (λ i. old ++ fits_fact (fitting terms (same_enc i) (k.text i) (same_edits i) other))
-    ∙ ap (λ es. old ++ fits_fact es) (sym (some_fit terms enc k.base.text other edits
+    ∙ (λ i. old ++ told terms (same_enc i) (k.text i) (same_setters i) (same_edits i) other)
+    ∙ ap (λ more. old ++ more) (sym (some_told terms enc k.base.text other setters edits
     (λ none. suspects.some (all ∙ none))))
-    ∙ ap (λ o. old ++ fits_fact (fitting_of terms enc limit sent call (Some k.base) o))
+    ∙ ap (λ o. old ++ told_of terms enc limit setters sent call (Some k.base) o)
     (c.in-Some-texts_of.ensures made stands.holds.called (λ is. breaks) (λ is. tried))
-    ∙ ap (λ o. old ++ fits_fact (fitting_of terms enc limit sent call o
-    (texts_of terms made call c.args.rule))) (sym k.is)) c.push_fitting.ensures
+    ∙ ap (λ o. old ++ told_of terms enc limit setters sent call o
+    (texts_of terms made call c.args.rule)) (sym k.is)) c.push_tried.ensures

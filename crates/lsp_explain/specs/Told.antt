@@ -1,0 +1,105 @@
+-- What is said of the suspects that would make the texts equal.
+use Rattle.std.specs.Prelude.{ℕ, List, [], ◌∷◌, ◌++◌, Option, Some, unwrap_or}
+use Rattle.std.specs.Str.{chars}
+use Rattle.lsp_types.specs.declared.position.Encoding.{Encoding}
+use Rattle.lsp_types.specs.declared.position.Encoding.TheVariants.{Utf16}
+use Rattle.lsp_docs.specs.Calls.{Call, Text, uri_of}
+use Rattle.lsp_docs.specs.Documents.{Terms, Version}
+use Rattle.lsp_session.specs.Negotiation.{encoding}
+use Rattle.lsp_verdict.specs.Event.{calls, Event, sent_in}
+use Rattle.lsp_verdict.specs.Offences.{kept_of}
+use Rattle.lsp_facts.specs.DocumentFacts.{fits_fact}
+use Rattle.lsp_facts.specs.Fact.{Fact}
+use Rattle.lsp_facts.specs.TwoTexts.{TwoTexts, texts_of}
+use Rattle.lsp_explain.specs.Bases.{base_at, sent_since}
+use Rattle.lsp_explain.specs.Fits.{fitting, is_given, suspected}
+use Rattle.lsp_explain.specs.Marking.{at_version, recent, steps}
+use Rattle.lsp_explain.specs.Rearranged.{rearranged_facts}
+use Rattle.lsp_explain.specs.SentEdits.{SentEdits}
+use Rattle.lsp_explain.specs.declared.fits.Trial.{Trial}
+use Rattle.lsp_explain.specs.declared.rearranged.Way.TheVariants.{AtOnce, Exchanged, Without}
+use Rattle.lsp_explain.specs.declared.suspects.Until.{Until}
+use Rattle.lsp_explain.specs.declared.suspects.Until.TheVariants as until
+use Rattle.lsp_explain.specs.declared.trail.mark.VersionEvent.{VersionEvent}
+
+-- ---- the messages that may be named
+
+-- the call itself, where the text came about by it
+abbrev pub own_setter : Until → List VersionEvent
+own_setter (until.Message p number) = at_version 0 p number ∷ []
+own_setter limit = []
+
+-- the last ones that set a version, and the call itself
+abbrev pub setters_until : Until → List VersionEvent → List VersionEvent
+setters_until limit done = done ++ own_setter limit
+
+-- ---- what they give
+
+-- which of the messages would have to be taken otherwise for them to make the other text of this
+-- one
+abbrev pub taken_otherwise : Terms → Encoding → Text → List VersionEvent → List SentEdits → Text
+    → List Fact
+taken_otherwise terms enc t setters sent other =
+    let gives = λ (messages : List SentEdits). is_given terms t messages other enc in
+    rearranged_facts gives setters sent AtOnce
+    ++ rearranged_facts gives setters sent Exchanged
+    ++ rearranged_facts gives setters sent Without
+
+-- **in which other encodings the messages make the other text of this one**, and which of them
+-- would have to be taken otherwise
+abbrev pub told : Terms → Encoding → Text → List VersionEvent → List SentEdits → Text → List Fact
+told terms enc t setters sent other =
+    fits_fact (fitting terms enc t sent other) ++ taken_otherwise terms enc t setters sent other
+
+abbrev pub told_by : Trial → List VersionEvent → List SentEdits → List Fact
+told_by trial setters sent =
+    told trial.docs.now.terms trial.encoding trial.text.now.content setters sent
+    (chars trial.other.now)
+
+-- ---- of a call
+
+-- no encoding without a suspect
+abbrev pub fitting_any : Terms → Encoding → Text → List SentEdits → Text → List Encoding
+fitting_any terms enc t [] other = []
+fitting_any terms enc t (s ∷ more) other = fitting terms enc t (s ∷ more) other
+
+-- where there is a base, and two texts differ
+abbrev pub fitting_of : Terms → Encoding → Until → List SentEdits → Call → Option Version
+    → Option TwoTexts → List Encoding
+fitting_of terms enc limit sent call (Some base) (Some texts) =
+    fitting_any terms enc base.text (suspected base limit sent call) texts.in_editor
+fitting_of terms enc limit sent call _ _ = []
+
+abbrev pub taken_of : Terms → Encoding → Until → List VersionEvent → List SentEdits → Call
+    → Option Version → Option TwoTexts → List Fact
+taken_of terms enc limit setters sent call (Some base) (Some texts) =
+    taken_otherwise terms enc base.text setters (suspected base limit sent call) texts.in_editor
+taken_of terms enc limit setters sent call _ _ = []
+
+abbrev pub told_of : Terms → Encoding → Until → List VersionEvent → List SentEdits → Call
+    → Option Version → Option TwoTexts → List Fact
+told_of terms enc limit setters sent call base texts =
+    fits_fact (fitting_of terms enc limit sent call base texts)
+    ++ taken_of terms enc limit setters sent call base texts
+
+-- the encoding that was agreed
+abbrev pub agreed_encoding : List Event → Encoding
+agreed_encoding kept = unwrap_or (encoding (sent_in kept)) Utf16
+
+-- **the other encodings in which the suspects make the text that the editor had**, where a call
+-- breaks this rule after these events
+abbrev pub fits : Terms → List Event → ℕ → Until → Call → List Encoding
+fits terms before rule limit call =
+    let kept = kept_of terms before in
+    fitting_of terms (agreed_encoding kept) limit (sent_since (uri_of call) (calls kept)) call
+    (base_at terms before (uri_of call)) (texts_of terms (calls kept) call rule)
+
+-- **what is said of the suspects** where it does: these encodings, and those that would have to be
+-- taken otherwise
+abbrev pub told_facts : Terms → List Event → ℕ → Until → Call → List Fact
+told_facts terms before rule limit call =
+    let kept = kept_of terms before in
+    told_of terms (agreed_encoding kept) limit
+    (setters_until limit (recent (steps terms (uri_of call) before)))
+    (sent_since (uri_of call) (calls kept)) call
+    (base_at terms before (uri_of call)) (texts_of terms (calls kept) call rule)
