@@ -1,5 +1,8 @@
-use Rattle.std.proofs.Common.{Some, sym, ap, ◌∙◌, option_map}
-use Rattle.lsp_redact.specs.Kept.{kept_of}
+use Rattle.std.proofs.Common.{Some, sym, ap, ◌∙◌, ℤ, option_map, rules, w32}
+use Rattle.std.specs.Prelude.{chars}
+use Rattle.std.proofs.lemmas.Int.{to_z-of_z}
+use mir.Val.{SFits}
+use Rattle.lsp_redact.specs.Kept.{kept_of, snapshot}
 use Rattle.lsp_redact.specs.View.{spoken_kept}
 use Rattle.lsp_redact.proofs.KeptEvents.{content_kept}
 use Rattle.lsp_redact.proofs.kept.kept_of.Goals as goal
@@ -19,4 +22,8 @@ returns-in-Broken c = λ before event waits reads speaks.
 pub returns-in_ok-shown-in-Snapshot : goal.returns-in_ok-shown-in-Snapshot
 returns-in_ok-shown-in-Snapshot c = λ before event waits reads speaks.
     let own = rw c.in-Snapshot.is at reads in
-    ap Some c.in_ok-shown-in-Snapshot.ensures ∙ sym (ap (kept_of before) own)
+    let fits : SFits w32 c.in-Snapshot.version = search rules in
+    ap Some (c.in_ok-shown-in-Snapshot.ensures
+    ∙ ap (λ (z : ℤ). snapshot c.in-Snapshot.uri.now z (chars c.in-Snapshot.text.now))
+    (to_z-of_z w32 c.in-Snapshot.version fits))
+    ∙ sym (ap (kept_of before) own)

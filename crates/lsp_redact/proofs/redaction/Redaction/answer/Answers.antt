@@ -1,4 +1,8 @@
-use Rattle.std.proofs.Common.{refl}
+use Rattle.std.proofs.Common.{◌≡◌, ap, refl, rules, w32, ◌∙◌}
+use Rattle.std.proofs.lemmas.Int.{to_z-of_z}
+use mir.Val.{SFits}
+use Rattle.serde_json.specs.View.{view}
+use Rattle.lsp_redact.specs.Messages.{error_data}
 use Rattle.lsp_redact.proofs.Showing.{writes_same}
 use Rattle.lsp_redact.proofs.redaction.Redaction.answer.Goals as goal
 
@@ -10,4 +14,7 @@ returns-in-Nothing c = rw c.in-Nothing.is (writes_same c.args.self.now _ _ refl)
 
 pub returns-in_ok-error-in-Error : goal.returns-in_ok-error-in-Error
 returns-in_ok-error-in-Error c =
-    rw c.in-Error.is (writes_same c.args.self.now _ _ c.in_ok-error-in-Error.ensures)
+    let fits : SFits w32 c.in-Error.code = search rules in
+    let made : view c.in_ok-error-in-Error.error ≡ error_data c.in-Error.code =
+    c.in_ok-error-in-Error.ensures ∙ ap error_data (to_z-of_z w32 c.in-Error.code fits) in
+    rw c.in-Error.is (writes_same c.args.self.now _ _ made)

@@ -13,6 +13,6 @@ returns-in-Notification c =
 
 pub returns-in-Response : goal.returns-in-Response
 returns-in-Response c =
-    let id = lent id_view c.as_ref.result c.in-Response.id.now c.as_ref.ensures.value in
+    let id = lent id_view c.as_ref.result c.in-Response.id c.as_ref.ensures.value in
     let told = rw id at c.response.ensures in
     rw c.in-Response.is told
