@@ -1,6 +1,7 @@
 -- What stands for a content that is no message breaks the rule that the content broke.
 use Rattle.std.proofs.Common.{◌≡◌, ℕ, Bool, true, false, List, [], ◌∷◌, Option, Some, None, IsUtf8, inl, inr}
-use Rattle.std.proofs.Common.{refl, sym, ap, subst, ◌∙◌, ◌<◌, ◌^◌, arith, pos, if◌then◌else◌}
+use Rattle.std.proofs.Common.{refl, sym, ap, subst, ◌∙◌, ◌<◌, ◌==◌, ◌^◌, arith, pos, if◌then◌else◌}
+use Rattle.std.proofs.Common.{true≢false}
 use Rattle.std.specs.Prelude.{not}
 use Rattle.std.specs.Float.Numeral.{scan_numeral}
 use Rattle.std.specs.List.{AllByRecursion}
@@ -39,6 +40,10 @@ pub record StandsFor (rule : ℕ) : Type 0 where
   pub utf8 : IsUtf8 (broken_content rule)
   pub not_params : rule ≡ rules.BAD_METHOD_PARAMS → ⊥
 
+not_209 : (rule : ℕ) → (rule == rules.BAD_METHOD_PARAMS) ≡ false → rule ≡ rules.BAD_METHOD_PARAMS → ⊥
+not_209 rule other is =
+    true≢false (sym (ap (λ (r : ℕ). r == rules.BAD_METHOD_PARAMS) is) ∙ other)
+
 none_some : (d : Data) → (let none : Option Data = None in none) ≡ Some d → ⊥
 none_some d h = cc
 
@@ -47,7 +52,7 @@ unfolding value punctuate lex content word after_number number_of scan_numeral c
 not_json = record {
   breaks = inr (refl, λ d json. none_some d json.1);
   utf8 = IsUtf8-nil;
-  not_params = λ h. absurd (cc h);
+  not_params = not_209 201 refl;
 }
 
 not_object : StandsFor 202
@@ -55,7 +60,7 @@ unfolding value punctuate lex content word after_number number_of scan_numeral c
 not_object = record {
   breaks = inl (_, (IsUtf8-are_ascii (broken_content 202) refl, refl), refl);
   utf8 = IsUtf8-are_ascii (broken_content 202) refl;
-  not_params = λ h. absurd (cc h);
+  not_params = not_209 202 refl;
 }
 
 bad_version : StandsFor 203
@@ -63,7 +68,7 @@ unfolding value punctuate lex content word after_number number_of scan_numeral c
 bad_version = record {
   breaks = inl (_, (IsUtf8-are_ascii (broken_content 203) refl, refl), refl);
   utf8 = IsUtf8-are_ascii (broken_content 203) refl;
-  not_params = λ h. absurd (cc h);
+  not_params = not_209 203 refl;
 }
 
 no_method : StandsFor 204
@@ -71,7 +76,7 @@ unfolding value punctuate lex content word after_number number_of scan_numeral c
 no_method = record {
   breaks = inl (_, (IsUtf8-are_ascii (broken_content 204) refl, refl), refl);
   utf8 = IsUtf8-are_ascii (broken_content 204) refl;
-  not_params = λ h. absurd (cc h);
+  not_params = not_209 204 refl;
 }
 
 bad_id : StandsFor 205
@@ -79,7 +84,7 @@ unfolding value punctuate lex content word after_number number_of scan_numeral c
 bad_id = record {
   breaks = inl (_, (IsUtf8-are_ascii (broken_content 205) refl, refl), refl);
   utf8 = IsUtf8-are_ascii (broken_content 205) refl;
-  not_params = λ h. absurd (cc h);
+  not_params = not_209 205 refl;
 }
 
 bad_params : StandsFor 206
@@ -87,7 +92,7 @@ unfolding value punctuate lex content word after_number number_of scan_numeral c
 bad_params = record {
   breaks = inl (_, (IsUtf8-are_ascii (broken_content 206) refl, refl), refl);
   utf8 = IsUtf8-are_ascii (broken_content 206) refl;
-  not_params = λ h. absurd (cc h);
+  not_params = not_209 206 refl;
 }
 
 no_message : StandsFor 207
@@ -95,7 +100,7 @@ unfolding value punctuate lex content word after_number number_of scan_numeral c
 no_message = record {
   breaks = inl (_, (IsUtf8-are_ascii (broken_content 207) refl, refl), refl);
   utf8 = IsUtf8-are_ascii (broken_content 207) refl;
-  not_params = λ h. absurd (cc h);
+  not_params = not_209 207 refl;
 }
 
 bad_error : StandsFor 208
@@ -103,7 +108,7 @@ unfolding value punctuate lex content word after_number number_of scan_numeral c
 bad_error = record {
   breaks = inl (_, (IsUtf8-are_ascii (broken_content 208) refl, refl), refl);
   utf8 = IsUtf8-are_ascii (broken_content 208) refl;
-  not_params = λ h. absurd (cc h);
+  not_params = not_209 208 refl;
 }
 
 same_rule : (a b : ℕ) → (let o : Option ℕ = Some a in o) ≡ Some b → a ≡ b

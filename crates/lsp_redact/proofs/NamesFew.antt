@@ -7,7 +7,7 @@ use Rattle.std.specs.Option.{option_map}
 use Rattle.std.proofs.lemmas.Grind.{flat_map-append}
 use Rattle.std.proofs.lemmas.List.{length-map}
 use Rattle.std.proofs.lemmas.List.Sums.{count_by-le-length, length-filter}
-use Rattle.json.specs.Print.{quoted}
+use Rattle.json.specs.Print.{escape, quoted}
 use Rattle.serde_json.specs.Data.{Data, Members, member, no_members, object}
 use Rattle.serde_json.specs.View.{items_of}
 use Rattle.serde_json.specs.Written.{comma_if, compact_text, items_text, members_text}
@@ -106,6 +106,7 @@ member_long : (later : Bool) (k : Text) (d : Data) (ms : Members)
 member_long later k d ms = omega (
   arith,
   length-append (comma_if later) (quoted k ++ 58 ∷ (compact_text d ++ members_text true ms)),
+  length-append (escape k) (34 ∷ []),
   length-append (quoted k) (58 ∷ (compact_text d ++ members_text true ms)),
   length-append (compact_text d) (members_text true ms),
 )
