@@ -40,9 +40,10 @@ pub record StandsFor (rule : ℕ) : Type 0 where
   pub utf8 : IsUtf8 (broken_content rule)
   pub not_params : rule ≡ rules.BAD_METHOD_PARAMS → ⊥
 
-not_209 : (rule : ℕ) → (rule == rules.BAD_METHOD_PARAMS) ≡ false → rule ≡ rules.BAD_METHOD_PARAMS → ⊥
-not_209 rule other is =
-    true≢false (sym (ap (λ (r : ℕ). r == rules.BAD_METHOD_PARAMS) is) ∙ other)
+not_209 : (rule : ℕ) → (rule == rules.BAD_METHOD_PARAMS) ≡ false
+    → rule ≡ rules.BAD_METHOD_PARAMS → ⊥
+not_209 rule differs is =
+    true≢false (sym (ap (λ (r : ℕ). r == rules.BAD_METHOD_PARAMS) is) ∙ differs)
 
 none_some : (d : Data) → (let none : Option Data = None in none) ≡ Some d → ⊥
 none_some d h = cc
