@@ -120,8 +120,8 @@ names_by (Some kept) = names_of kept
 abbrev pub IsFaultOf : ℕ → Event → Type 0
 IsFaultOf rule event = (side : Side) (own : ℕ) → event ≡ fault side own → own ≡ rule
 
--- a content of a side that is refused by this rule is added as records, or nothing of a fault of the
--- frames is; a message and a snapshot are kept
+-- a content of a side that is refused by this rule is added as records; of a fault of the frames
+-- nothing is, and a message and a snapshot are kept
 abbrev pub IsBroken : ℕ → Raw → Event → ℕ → List ℕ → List ℕ → Type 0
 IsBroken most raw (message m) rule text_before text_after = Unit {0}
 IsBroken most raw (fault side own) rule text_before text_after =

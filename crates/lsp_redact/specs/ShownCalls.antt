@@ -49,8 +49,8 @@ DocumentRulesStay = (shown_by : Bytes → Bytes) (apart : Option ℕ) → KeepsA
 abbrev pub apart_by : Terms → List Call → Call → Option ℕ
 apart_by terms before call = option_and_then (apart_in terms.line_ends) (compared terms before call)
 
--- **A call that says that two texts differ says so still**, where the character stays apart at which
--- they first differ.
+-- **A call that says that two texts differ says so still**, where the character stays apart at
+-- which they first differ.
 abbrev pub DifferencesStay : Type 0
 DifferencesStay = (shown_by : Bytes → Bytes) → KeepsApart shown_by
     → (terms : Terms) (before : List Call) (call : Call)
