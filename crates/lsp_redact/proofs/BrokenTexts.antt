@@ -6,7 +6,9 @@ use Rattle.lsp_rpc.specs.Message as spoken
 use Rattle.lsp_rpc.specs.Message.{Message}
 use Rattle.lsp_rpc.specs.Params.{IsRefused}
 use Rattle.lsp_log.specs.Log.{spelling}
-use Rattle.lsp_rpc.specs.Reading.{BreaksRule, Reads}
+use Rattle.lsp_rpc.specs.Reading.{IsRefusal, Reads}
+use Rattle.lsp_types.specs.declared.fault.Fault.{Fault}
+use Rattle.lsp_types.specs.declared.fault.Fault.TheVariants.{Rule}
 use Rattle.lsp_types.specs.declared.rules.TheConstants as rules
 use Rattle.lsp_types.specs.declared.side.Side.{Side}
 use Rattle.lsp_verdict.specs.Event.{Event, fault, message, snapshot}
@@ -44,13 +46,13 @@ replaces_params bytes rule text m is reads made = record {
 }
 
 -- a content that is no message does not have bad params
-pub never_both : (side : Side) (bytes : List ℕ) (rule r : ℕ) (text : List ℕ)
-    → rule ≡ rules.BAD_METHOD_PARAMS → IsRefused side bytes rule → BreaksRule bytes r
+pub never_both : (side : Side) (bytes : List ℕ) (rule : ℕ) (f : Fault) (r : ℕ) (text : List ℕ)
+    → rule ≡ rules.BAD_METHOD_PARAMS → IsRefused side bytes rule → f ≡ Rule r → IsRefusal bytes f
     → Replaces bytes rule text
-never_both side bytes rule r text is (inl breaks) not =
+never_both side bytes rule f r text is (inl breaks) kind not =
     absurd ((stands_for bytes rule breaks).not_params is)
-never_both side bytes rule r text is (inr (same, bad)) not =
-    absurd (not_both bytes bad.of r bad.reads not)
+never_both side bytes rule f r text is (inr (same, bad)) kind not =
+    absurd (not_both bytes bad.of r bad.reads (subst (IsRefusal bytes) kind not))
 
 -- ---- what is added for it
 

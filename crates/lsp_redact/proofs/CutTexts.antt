@@ -1,7 +1,7 @@
 -- Texts that are cut between characters.
 use Rattle.std.proofs.Common.{◌≡◌, ℕ, ◌+◌, ◌-◌, ◌<◌, ◌≤◌, Bool, true, false, List, [], ◌∷◌, ◌++◌, length, take, drop}
 use Rattle.std.proofs.Common.{refl, sym, ap, subst, ◌∙◌, Option, Some, None, append_assoc, append-nil, arith}
-use Rattle.std.proofs.Common.{inl, inr, IsUtf8, map, max, suc, zero}
+use Rattle.std.proofs.Common.{eqb-true, inl, inr, IsUtf8, map, max, suc, zero}
 use Rattle.std.specs.Prelude.{◌==◌, MatchOption, chars, encode_utf8_all}
 use Rattle.std.specs.Iterator.{SkipsThenYields, Yields}
 use Rattle.std.specs.List.{flat_map}
@@ -297,5 +297,5 @@ some_character text utf8 b is h = by_characters (chars text) (encodes-chars text
 pub no_characters_left : (text : List ℕ) (b : Bool) → b ≡ (length text == 0) → b ≡ true → text ≡ []
 no_characters_left [] b is h = refl
 no_characters_left (x ∷ xs) b is h =
-    let long : length (x ∷ xs) ≡ suc (length xs) = refl in
-    absurd (false≢true (sym (ap (λ (n : ℕ). n == 0) long) ∙ sym is ∙ h))
+    let none : length (x ∷ xs) ≡ 0 = eqb-true (length (x ∷ xs)) 0 (sym is ∙ h) in
+    absurd (omega (arith, none))

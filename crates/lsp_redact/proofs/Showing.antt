@@ -88,6 +88,12 @@ writes_after {mid = mid} {new = new} {b = b} g y h k =
 
 -- ---- small steps
 
+-- no more names are seen
+pub writes_joined : {X : Type 0} {old new : Redaction} {a : Names} {f : Names → X} {x : X}
+    → Writes old new a f x → Writes old new (joined a no_names) f x
+writes_joined {old = old} {new = new} {a = a} {f = f} {x = x} h =
+    subst (λ (names : Names). Writes old new names f x) (sym (joined-none a)) h
+
 -- what has no names
 pub shows_same : {X : Type 0} (names : code.Names) (x y : X) → y ≡ x
     → Shows names names no_names (λ n. x) y

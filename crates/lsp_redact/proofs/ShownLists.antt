@@ -1,15 +1,15 @@
 -- What is shown of lists, one item after another.
 use Rattle.std.proofs.Common.{◌≡◌, ℕ, ◌+◌, ◌<◌, List, [], ◌∷◌, ◌++◌, map, length, take}
 use Rattle.std.proofs.Common.{get_or, Option, Some, None, option_map, String, Global, string_bytes}
-use Rattle.std.proofs.Common.{refl, sym, ap, subst, ◌∙◌}
+use Rattle.std.proofs.Common.{refl, rules, sym, ap, subst, ◌∙◌}
 use Rattle.std.specs.Borrow.{Bor}
 use Rattle.std.specs.Option.{option_copied}
 use Rattle.std.specs.Prelude.{not}
 use Rattle.std.proofs.lemmas.List.{map-append, take_more}
 use Rattle.std.proofs.lemmas.List.Elements.{filter-append}
-use Rattle.serde_json.specs.Data.{Data, string}
+use Rattle.serde_json.specs.Data.{Data, null, string}
 use Rattle.serde_json.specs.View.{view}
-use Rattle.serde_json.specs.declared.value.Value.{Value}
+use Rattle.serde_json.specs.declared.value.Value.{Null, Value, the_lemmas}
 use Rattle.lsp_rpc.specs.Act.{Text}
 use Rattle.lsp_rpc.specs.View.{change_view, changes_view, texts_view}
 use Rattle.lsp_types.specs.declared.change.Change as code
@@ -21,6 +21,9 @@ use Rattle.lsp_redact.specs.Shown.{shown_change}
 use Rattle.lsp_redact.specs.declared.names.Names as names
 use Rattle.lsp_redact.specs.declared.redaction.Redaction.{Redaction}
 use Rattle.lsp_redact.proofs.Showing.{shows_made, writes_both}
+
+pub view-Null : view Null ≡ null
+view-Null = search (rules, the_lemmas)
 
 lent_read : {D R : Type 0} (f : D → R) (r : Option (Bor D))
     → option_map (λ x. f x.now) r ≡ option_map f (option_copied r)

@@ -14,40 +14,40 @@ returns-in_default c =
     let t = YieldsList-turn (YieldsList-from_chars c.args.other.now c.utf8.other cc)
     c.loop-character.yielded _ c.loop-character.yielded_by _ _ c.in-Some.character c.in-Some.is
     c.next.ensures.steps in
-    let step = none_came c.loop-character.characters c.next-2.new.self c.next-2.result
-    c.in_default.not-Some c.next-2.ensures.steps in
+    let step = none_came c.loop-character.characters c.next-in-loop-character.new.self c.next-in-loop-character.result
+    c.in_default.not-Some c.next-in-loop-character.ensures.steps in
     sym (c.loop-character.invariant.same
-    ∙ ends_here (chars c.args.other.now) c.loop-character.characters c.next-2.new.self
+    ∙ ends_here (chars c.args.other.now) c.loop-character.characters c.next-in-loop-character.new.self
     (length c.loop-character.yielded) c.in-Some.character step t)
 
-pub returns-then-own-ne-character : goal.returns-then-own-ne-character
-returns-then-own-ne-character c =
+pub returns-then-own-character : goal.returns-then-own-character
+returns-then-own-character c =
     let t = YieldsList-turn (YieldsList-from_chars c.args.other.now c.utf8.other cc)
     c.loop-character.yielded _ c.loop-character.yielded_by _ _ c.in-Some.character c.in-Some.is
     c.next.ensures.steps in
-    let step = this_came c.loop-character.characters c.next-2.new.self c.next-2.result
-    c.in-Some-2.own c.in-Some-2.is c.next-2.ensures.steps in
+    let step = this_came c.loop-character.characters c.next-in-loop-character.new.self c.next-in-loop-character.result
+    c.in-Some-next.own c.in-Some-next.is c.next-in-loop-character.ensures.steps in
     sym (c.loop-character.invariant.same
-    ∙ differs_here (chars c.args.other.now) c.loop-character.characters c.next-2.new.self
-    (length c.loop-character.yielded) c.in-Some.character c.in-Some-2.own
-    c.loop-character.invariant.utf8 step t c.if-own-ne-character.true)
+    ∙ differs_here (chars c.args.other.now) c.loop-character.characters c.next-in-loop-character.new.self
+    (length c.loop-character.yielded) c.in-Some.character c.in-Some-next.own
+    c.loop-character.invariant.utf8 step t c.if-own-character.true)
 
 pub loop-character-preserved : goal.loop-character-preserved
 loop-character-preserved c =
     let t = YieldsList-turn (YieldsList-from_chars c.args.other.now c.utf8.other cc)
     c.loop-character.yielded _ c.loop-character.yielded_by _ _ c.in-Some.character c.in-Some.is
     c.next.ensures.steps in
-    let step = this_came c.loop-character.characters c.next-2.new.self c.next-2.result
-    c.in-Some-2.own c.in-Some-2.is c.next-2.ensures.steps in
+    let step = this_came c.loop-character.characters c.next-in-loop-character.new.self c.next-in-loop-character.result
+    c.in-Some-next.own c.in-Some-next.is c.next-in-loop-character.ensures.steps in
     let more = length_push c.loop-character.yielded c.in-Some.character in
     record {
       same = c.loop-character.invariant.same
-          ∙ same_here (chars c.args.other.now) c.loop-character.characters c.next-2.new.self
-          (length c.loop-character.yielded) c.in-Some.character c.in-Some-2.own
-          c.loop-character.invariant.utf8 step t c.if-own-ne-character.false
-          ∙ ap (λ n. first_other (chars (chars_rest c.next-2.new.self))
+          ∙ same_here (chars c.args.other.now) c.loop-character.characters c.next-in-loop-character.new.self
+          (length c.loop-character.yielded) c.in-Some.character c.in-Some-next.own
+          c.loop-character.invariant.utf8 step t c.if-own-character.false
+          ∙ ap (λ n. first_other (chars (chars_rest c.next-in-loop-character.new.self))
           (drop n (chars c.args.other.now))) (sym more);
-      utf8 = rest_utf8 c.loop-character.characters c.next-2.new.self c.in-Some-2.own
+      utf8 = rest_utf8 c.loop-character.characters c.next-in-loop-character.new.self c.in-Some-next.own
           c.loop-character.invariant.utf8 step;
     }
 

@@ -13,10 +13,10 @@ pub returns-in_ok-shown-in-Ok : goal.returns-in_ok-shown-in-Ok
 returns-in_ok-shown-in-Ok c = λ side refused.
     replaces_params c.args.content.now c.args.rule (string_bytes c.in_ok-shown-in-Ok.shown)
     (message_view c.in-Ok.message) c.if-rule-ne-BAD_METHOD_PARAMS.false c.in-Ok.ensures.ok
-    (λ plain. c.in_ok-shown-in-Ok.ensures.text (ap has_float c.in_ok-bare.ensures ∙ plain)
-    ∙ ap compact_text c.in_ok-bare.ensures)
+    (λ plain. c.in_ok-shown-in-Ok.ensures.text (ap has_float c.in_ok-bare-in-Ok.ensures ∙ plain)
+    ∙ ap compact_text c.in_ok-bare-in-Ok.ensures)
 
 pub returns-in-Err-Rule : goal.returns-in-Err-Rule
 returns-in-Err-Rule c = λ side refused.
-    never_both side c.args.content.now c.args.rule c.in-Err-Rule.field-0 _
-    c.if-rule-ne-BAD_METHOD_PARAMS.false refused c.in-Err-Rule.ensures.rule
+    never_both side c.args.content.now c.args.rule c.in-Err-Rule.field-0 _ _
+    c.if-rule-ne-BAD_METHOD_PARAMS.false refused c.in-Err-Rule.field-0-is c.in-Err-Rule.ensures.rule

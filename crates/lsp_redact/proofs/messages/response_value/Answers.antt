@@ -7,4 +7,4 @@ pub returns : goal.returns
 returns c =
     c.object_of.ensures
     ∙ ap object (answer_made _ _ _ _ _ _ _ _ c.no_members-members.ensures c.in_ok-put.ensures.ok
-    c.in_ok-version.ensures c.in_ok-put-2.ensures.ok c.in_ok-put-3.ensures.ok)
+    c.in_ok-version_value.ensures c.in_ok-put-2.ensures.ok c.in_ok-put-3.ensures.ok)

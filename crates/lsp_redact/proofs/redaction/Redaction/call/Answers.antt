@@ -12,7 +12,7 @@ pub returns-in_ok-opened-in-DidOpen : goal.returns-in_ok-opened-in-DidOpen
 returns-in_ok-opened-in-DidOpen c =
     let fits : SFits w32 c.in-DidOpen.version = search rules in
     let told = rw c.as_str.ensures.value at
-    rw c.as_str-2.ensures.value at
+    rw c.as_str-in-DidOpen.ensures.value at
     rw (to_z-of_z w32 c.in-DidOpen.version fits) at c.in_ok-opened-in-DidOpen.ensures in
     rw c.in-DidOpen.is (writes_made (λ (d : Data). Some d) _ refl told)
 

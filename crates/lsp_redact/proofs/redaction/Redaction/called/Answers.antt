@@ -18,15 +18,16 @@ returns c =
     let mid : Redaction = record c.given_id.new.self { names = c.method.new.self } in
     let id : Option Ident = option_map (λ i. id_view i.now) c.args.id in
     let method : Text = c.args.method.now in
+    let make : Option Data → Text → Option Data → Data =
+    λ i m params. object (call_members i m params) in
+    let with : (Option Data → Data) → Option Data → Data = λ f params. f params in
+    let own : Option Data = option_map view c.in_ok-own.own in
+    let name : Text = string_bytes c.in_ok-name.name in
     let front : Writes start mid (call_names id method)
-    (λ n params. object (call_members (option_map id_data (option_map (shown_id n) id))
-    (shown_method n method) params))
-    (λ params. object (call_members (option_map view c.in_ok-own.own)
-    (string_bytes c.in_ok-name.name) params)) =
-    writes_both (λ (i : Option Data) (m : Text) (params : Option Data).
-    object (call_members i m params)) _ refl c.in_ok-own.ensures
+    (λ n. make (option_map id_data (option_map (shown_id n) id)) (shown_method n method))
+    (make own name) =
+    writes_both make (make own name) refl c.in_ok-own.ensures
     (record { same = refl; shows = c.in_ok-name.ensures }) in
-    writes_both (λ (f : Option Data → Data) (params : Option Data). f params)
-    (view c.in_ok-shown.shown) c.in_ok-shown.ensures front
+    writes_both with (view c.in_ok-shown.shown) c.in_ok-shown.ensures front
     (writes_after (λ apart n. params_of (shown_act n apart (act_view c.args.act.now))) _ front
     c.in_ok-params.ensures)

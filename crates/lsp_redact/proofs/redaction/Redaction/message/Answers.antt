@@ -1,4 +1,6 @@
+use Rattle.std.proofs.lemmas.Result.{IfOk-weaker}
 use Rattle.lsp_rpc.specs.Ident.{id_view}
+use Rattle.lsp_redact.proofs.Showing.{writes_joined}
 use Rattle.lsp_redact.proofs.ShownLists.{lent}
 use Rattle.lsp_redact.proofs.redaction.Redaction.message.Goals as goal
 
@@ -15,4 +17,5 @@ pub returns-in-Response : goal.returns-in-Response
 returns-in-Response c =
     let id = lent id_view c.as_ref.result c.in-Response.id c.as_ref.ensures.value in
     let told = rw id at c.response.ensures in
-    rw c.in-Response.is told
+    rw c.in-Response.is
+    (IfOk-weaker c.response.result _ _ (λ shown writes. writes_joined writes) told)
