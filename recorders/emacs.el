@@ -40,15 +40,22 @@ A message then shows each violation at once, and a window explains it.")
         (dolist (line (butlast lines))
           (funcall hear process line))))))
 
+(defconst lspcheck--shown
+  (rx string-start
+      (or (seq "no " digit) "bad log "
+          (seq "note " (or "past-end" "range-length" "refused") " ")))
+  "How the lines begin that are shown.")
+
 (defun lspcheck--hear (file)
-  "A function that shows each violation in FILE, a log, and keeps the lines from the first one on."
+  "A function that shows each violation in FILE, a log, and keeps the lines from the first one on.
+It also shows the notes that say that a server may have dropped a document."
   (let ((is-told nil))
     (lambda (_process line)
-      (let ((is-violation (string-match-p "\\`\\(no [0-9]\\|bad log \\)" line)))
-        (setq is-told (or is-told is-violation))
+      (let ((is-shown (string-match-p lspcheck--shown line)))
+        (setq is-told (or is-told is-shown))
         (when is-told
           (lspcheck--keep file (list line)))
-        (when is-violation
+        (when is-shown
           (display-buffer (lspcheck--keep file nil))
           (message "lspcheck: %s" line))))))
 
@@ -74,7 +81,7 @@ A message then shows each violation at once, and a window explains it.")
 Where line ends are converted on the way, texts differ from the first snapshot on.  So one process
 ignores line ends, and another is there only to say so once."
   (when (and lspcheck-alarm (executable-find "lspcheck"))
-    (list (lspcheck--start-check (lspcheck--hear file) "--ignore-line-ends")
+    (list (lspcheck--start-check (lspcheck--hear file) "--ignore-line-ends" "--notes")
           (lspcheck--start-check (lspcheck--hear-line-ends file)))))
 
 (defun lspcheck--create (name)

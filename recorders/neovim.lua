@@ -43,12 +43,21 @@ local function keep(log, lines)
   vim.api.nvim_buf_set_lines(log.buffer, -1, -1, true, lines)
 end
 
+-- The notes that are shown like violations: they say that a server may have dropped a document.
+local told_notes = { ["past-end"] = true, ["range-length"] = true, refused = true }
+
+local function is_told_at_once(line)
+  local note = line:match("^note (%S+) ")
+  return line:match("^no %d") or line:match("^bad log ") or (note and told_notes[note])
+end
+
 -- Starts `lspcheck explain --all`, which reads the log while it is written and explains each
 -- violation at once. `hear` gets each line.
-local function start_check(log, option, hear)
+local function start_check(log, given, hear)
   local check = { input = uv.new_pipe(false) }
   local output, rest = uv.new_pipe(false), ""
-  local options = { args = { "explain", "--all", option }, stdio = { check.input, output } }
+  local args = vim.list_extend({ "explain", "--all" }, given)
+  local options = { args = args, stdio = { check.input, output } }
   if not spawn("lspcheck", options, function() end) then
     return
   end
@@ -76,20 +85,21 @@ local function end_check(log, check)
 end
 
 -- A file whose line ends are converted on the way differs from its first snapshot on. So one check
--- ignores line ends, and another is there only to say so once. Without a violation nothing is kept.
+-- ignores line ends, and another is there only to say so once. Before the first violation, or the
+-- first of those notes, nothing is kept.
 local function start_alarm(log)
   local is_told, said, block, is_of_ends = false, false, {}, false
-  start_check(log, "--ignore-line-ends", function(line)
-    local is_violation = line:match("^no %d") or line:match("^bad log ")
-    is_told = is_told or is_violation
+  start_check(log, { "--ignore-line-ends", "--notes" }, function(line)
+    local is_shown = is_told_at_once(line)
+    is_told = is_told or is_shown
     if is_told then
       keep(log, { line })
     end
-    if is_violation then
+    if is_shown then
       say(("lspcheck: %s (:buffer %d)"):format(line, log.buffer))
     end
   end)
-  start_check(log, nil, function(line, check)
+  start_check(log, {}, function(line, check)
     if line:match("^no %d") then
       block, is_of_ends = {}, false
     end

@@ -105,10 +105,14 @@ class Feed(threading.Thread):
 
 class Check(threading.Thread):
     """`lspcheck explain --all`, which reads the log while it is written. Each explanation is
-    passed to a function as soon as it is written."""
+    passed to a function as soon as it is written, and so is each note that says that the server may
+    have dropped a document."""
 
-    # An explanation ends with the next one, or with the number of all.
-    explanation = re.compile(rb"^no .*?(?=^no |^offences |\Z)", re.M | re.S)
+    # An explanation ends with the next one, with a note, or with the number of all.
+    told = re.compile(
+        rb"^no .*?(?=^no |^note |^offences |\Z)|^note (?:past-end|range-length|refused) [^\n]*\n",
+        re.M | re.S,
+    )
 
     def __init__(self, options, tell):
         super().__init__(daemon=True)
@@ -131,17 +135,19 @@ class Check(threading.Thread):
         self.tell_all(held)
 
     def tell_all(self, text):
-        for found in self.explanation.findall(text):
+        for found in self.told.findall(text):
             self.tell(found)
 
 
 class Alarm:
-    """Reports each independent violation on standard error and in a file. Texts are compared
-    whatever their line ends are; a second check finds the first two that differ in these alone."""
+    """Reports each independent violation on standard error and in a file, and notes with them.
+    Texts are compared whatever their line ends are; a second check finds the first two that differ
+    in these alone."""
 
     def __init__(self, path):
         self.path, self.lock, self.has_told_line_ends = path, threading.Lock(), False
-        self.checks = [Check(["--ignore-line-ends"], self.tell), Check([], self.tell_line_ends)]
+        options = ["--ignore-line-ends", "--notes"]
+        self.checks = [Check(options, self.tell), Check([], self.tell_line_ends)]
 
     def write(self, data):
         for check in self.checks:

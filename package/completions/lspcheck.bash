@@ -18,7 +18,7 @@ _lspcheck() {
     case $command in
         "") options="--help --version -h -V" ;;
         check) options="--complete --all --every --compared --ignore-line-ends --json --quiet --help -h" ;;
-        explain) options="--complete --all --ignore-line-ends --by-messages --in-editor --json --quiet --help -h" ;;
+        explain) options="--complete --all --notes --ignore-line-ends --by-messages --in-editor --json --quiet --help -h" ;;
         show) options="--all --long --json --quiet --help -h" ;;
         text) options="--all --quiet --help -h" ;;
         event | normal | upgrade) options="--quiet --help -h" ;;

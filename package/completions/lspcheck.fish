@@ -28,6 +28,7 @@ complete -c lspcheck -n 'not __lspcheck_command help' -s h -l help -d 'Print hel
 complete -c lspcheck -n '__lspcheck_command help' -f -a 'check explain show text event normal upgrade redact frames help'
 complete -c lspcheck -n '__lspcheck_option complete check explain' -l complete -d 'Require a complete session'
 complete -c lspcheck -n '__lspcheck_option all check explain' -l all -d 'Every independent violation'
+complete -c lspcheck -n '__lspcheck_option notes explain' -l notes -d 'With --all, write the notes too'
 complete -c lspcheck -n '__lspcheck_option all text' -l all -d 'Skip each message that breaks a rule'
 complete -c lspcheck -n '__lspcheck_option every check' -l every -d 'Every violation, consequences included'
 complete -c lspcheck -n '__lspcheck_option compared check' -l compared -d 'Status 1 if a yes compared no snapshot'

@@ -106,13 +106,17 @@ function! s:Keep(log, lines) abort
   return l:buffer
 endfunction
 
-" Shows each violation, and keeps the lines from the first one on.
+" How the lines begin that are shown: violations, and notes that say that a server may have dropped
+" a document.
+let s:shown = '^\(no \d\|bad log \|note \(past-end\|range-length\|refused\) \)'
+
+" Shows each of these lines, and keeps all from the first one on.
 function! s:Hear(log, state, line) abort
-  let l:is_violation = a:line =~# '^\(no \d\|bad log \)'
-  let a:state.is_told = a:state.is_told || l:is_violation
+  let l:is_shown = a:line =~# s:shown
+  let a:state.is_told = a:state.is_told || l:is_shown
   let l:buffer = a:state.is_told ? s:Keep(a:log, [a:line]) : 0
 
-  if l:is_violation
+  if l:is_shown
     call s:Say('lspcheck: ' . a:line . ' (:buffer ' . l:buffer . ')')
   endif
 endfunction
@@ -141,7 +145,7 @@ function! s:StartAlarm(log) abort
   let l:state = {'is_told': 0, 'block': [], 'is_shown': 0}
   let l:command = ['lspcheck', 'explain', '--all']
   let s:checks[a:log] = [
-  \   job_start(l:command + ['--ignore-line-ends'], {
+  \   job_start(l:command + ['--ignore-line-ends', '--notes'], {
   \     'in_mode': 'raw',
   \     'out_cb': {_, line -> s:Hear(a:log, l:state, line)},
   \   }),

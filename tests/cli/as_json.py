@@ -121,6 +121,7 @@ def try_watched(trial):
     for words, log, early in [
         (["check", "--all"], sessions.WRONGS, causes),
         (["explain", "--all"], sessions.WRONGS, sessions.WRONGS_EXPLAINED),
+        (["explain", "--all", "--notes"], sessions.NOTED, sessions.NOTED_EXPLAINED),
         (["show"], sessions.WHOLE, sessions.WHOLE_LINES),
         (["show", "--all"], sessions.WRONGS, sessions.WRONGS_SHOWN),
     ]:

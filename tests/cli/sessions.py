@@ -378,6 +378,13 @@ usually editor
     ),
 ]
 
+# A didChange that breaks a rule and changes nothing, and one that is past the end of its line: what
+# is written of them before the log ends, and then.
+PAST_END = '{"range":{"start":{"line":0,"character":3},"end":{"line":0,"character":3}},"text":"x"}'
+NOTED = HEAD + INITIALIZE + ANSWER + INITIALIZED + OPEN + changed(1) + changed(2, PAST_END)
+NOTED_EXPLAINED = STAYS + STAYS_FACTS + b"note past-end 0 3 length 2 event 6 editor 5\n"
+NOTED_COUNTS = b"offences 1 following 0\nnotes 1\n"
+
 
 def in_bytes(log):
     """The log with each record of bytes cut into records of one byte."""

@@ -42,12 +42,12 @@ def say_text(editor, version, text):
 
 
 def heads(editor, count, seconds=SECONDS):
-    """The first lines of this many explanations on standard error, or of those that come within
-    some seconds."""
+    """The first lines of this many explanations and notes on standard error, or of those that come
+    within some seconds."""
 
     def found():
         whole = editor.words().rpartition("\n")[0]
-        return [line for line in whole.split("\n") if line.startswith("no ")]
+        return [line for line in whole.split("\n") if line.startswith(("no ", "note "))]
 
     until(lambda: len(found()) >= count, seconds)
     return found()
@@ -100,6 +100,41 @@ def tells_lost_end(place, program):
     said = editor.words().split("\n")
     yield "which", "ends last" in said and not any(it.startswith("line-ends ") for it in said), said
     editor.quit()
+
+
+def tells_notes(place, program):
+    """What servers drop documents for, and a refused request, are reported once, before a violation
+    and after it; no other note is."""
+    editor = checked(place, program, "--check")
+    far = {"start": {"line": 0, "character": 9}, "end": {"line": 0, "character": 9}}
+    editor.open(TITLE.decode(), "one\n")
+    editor.change(TITLE.decode(), 2, "x", far)
+    wanted = ["note past-end 0 9 length 3 event 5 editor 4"]
+    found = heads(editor, 1)
+    yield "a position", found == wanted, found
+    editor.change(TITLE.decode(), 3, "y", far)
+    editor.tell("textDocument/hover")
+    for _ in range(2):
+        editor.ask("refuse", {"textDocument": {"uri": TITLE.decode()}})
+    wanted.append('note refused -32602 "file:///a" event 9 server 2')
+    found = heads(editor, 2)
+    yield "a request", found == wanted, found
+    editor.tell("initialized", {})
+    wanted.append("no 404 editor 9 event 12")
+    found = heads(editor, 3)
+    yield "a violation", found == wanted, found
+    editor.open("file:///b", "two\n")
+    start, end = {"line": 0, "character": 0}, {"line": 0, "character": 2}
+    change = {"range": {"start": start, "end": end}, "rangeLength": 3, "text": ""}
+    document = {"uri": "file:///b", "version": 2}
+    editor.tell("textDocument/didChange", {"textDocument": document, "contentChanges": [change]})
+    wanted.append("note range-length 3 length 2 event 14 editor 11")
+    found = heads(editor, 4)
+    yield "a length", found == wanted, found
+    yield "the session", editor.quit() == 0, editor.words()
+    yield "each once", heads(editor, 5, 0) == wanted, editor.words()
+    copy, = editor.logs.glob("*.explain")
+    yield "in the file, too", copy.read_text() == editor.words(), copy.read_text()
 
 
 def tells_nothing(place, program):
@@ -207,6 +242,7 @@ TESTS = {
     "vscode: a lost change": from_vscode(lambda path: path.write_bytes(b""), 3),
     "check: each violation": tells_each,
     "check: a lost line end": tells_lost_end,
+    "check: notes": tells_notes,
     "check: no violation": tells_nothing,
     "check: a session": keeps_rules,
     "check: a lost change": finds_lost_change,

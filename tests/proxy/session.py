@@ -29,7 +29,7 @@ PROMPT, TOGETHER = 150_000_000, 20_000_000
 # How many times as long the proxy of a test waits, until the machine is fast enough for the test.
 TIMES = (1, 2, 4, 8, 16, 32)
 
-# A server that answers each request, ends at `exit`, and sleeps or dies when it is asked to.
+# A server that answers each request, ends at `exit`, and sleeps, dies or refuses if it is asked to.
 SERVER = r"""
 import json, os, sys, time
 while True:
@@ -50,7 +50,10 @@ while True:
         os._exit(message["params"][0])
     if "id" in message:
         result = {"capabilities": {"textDocumentSync": 2}} if method == "initialize" else None
-        answer = json.dumps({"jsonrpc": "2.0", "id": message["id"], "result": result})
+        reply = {"result": result}
+        if method == "refuse":
+            reply = {"error": {"code": -32602, "message": "no such document"}}
+        answer = json.dumps({"jsonrpc": "2.0", "id": message["id"], **reply})
         sys.stdout.write(f"Content-Length: {len(answer)}\r\n\r\n{answer}")
         sys.stdout.flush()
 """

@@ -96,39 +96,54 @@ asks_check rows complete false false a b c = record { command = refl; arguments 
 
 module _ (rows : List Row) (complete : Bool)
     (a : IsFlag (one_of (codes "complete") rows) complete) where
-  asked_explain : (all by_messages in_editor : Bool) → IsFlag (one_of (codes "all") rows) all
+  asked_explain : (all notes by_messages in_editor : Bool) → IsFlag (one_of (codes "all") rows) all
+      → IsFlag (one_of (codes "notes") rows) notes
       → IsFlag (one_of (codes "by-messages") rows) by_messages
       → IsFlag (one_of (codes "in-editor") rows) in_editor
-      → AsksExplain rows (completeness_of complete) all (compared_of by_messages in_editor)
-  asked_explain all by_messages in_editor b d e = record {
+      → AsksExplain rows (completeness_of complete) all notes (compared_of by_messages in_editor)
+  asked_explain all notes by_messages in_editor b n d e = record {
     complete = complete;
     by_messages = by_messages;
     in_editor = in_editor;
     complete_is = a;
     all_is = b;
+    notes_is = n;
     by_messages_is = d;
     in_editor_is = e;
     completeness_is = refl;
     text_is = refl;
   }
 
-  pub asks_explain : (all by_messages in_editor : Bool) → IsFlag (one_of (codes "all") rows) all
+  pub asks_explain : (all notes by_messages in_editor : Bool)
+      → IsFlag (one_of (codes "all") rows) all → IsFlag (one_of (codes "notes") rows) notes
       → IsFlag (one_of (codes "by-messages") rows) by_messages
       → IsFlag (one_of (codes "in-editor") rows) in_editor
       → HasTask (codes "explain") rows
-      (explain_of (completeness_of complete) all (compared_of by_messages in_editor))
-  asks_explain all true in_editor b d e = record {
+      (explain_of (completeness_of complete) all notes (compared_of by_messages in_editor))
+  asks_explain all notes true in_editor b n d e = record {
     command = refl;
-    arguments = (completeness_of complete, all, asked_explain all true in_editor b d e);
+    arguments = (
+      completeness_of complete,
+      all,
+      notes,
+      asked_explain all notes true in_editor b n d e,
+    );
   }
-  asks_explain all false true b d e = record {
+  asks_explain all notes false true b n d e = record {
     command = refl;
-    arguments = (completeness_of complete, all, asked_explain all false true b d e);
+    arguments = (
+      completeness_of complete,
+      all,
+      notes,
+      asked_explain all notes false true b n d e,
+    );
   }
-  asks_explain true false false b d e =
-      record { command = refl; arguments = asked_explain true false false b d e }
-  asks_explain false false false b d e =
-      record { command = refl; arguments = asked_explain false false false b d e }
+  asks_explain true true false false b n d e =
+      record { command = refl; arguments = asked_explain true true false false b n d e }
+  asks_explain true false false false b n d e =
+      record { command = refl; arguments = asked_explain true false false false b n d e }
+  asks_explain false notes false false b n d e =
+      record { command = refl; arguments = (notes, asked_explain false notes false false b n d e) }
 
 pub asks_show : (rows : List Row) (lines : Lines) (all : Bool) → AsksShow rows lines all
     → HasTask (codes "show") rows (show_of lines all)
@@ -152,6 +167,7 @@ no_text rows none (tasks.CheckLine a b) h = apart _ _ refl h.command
 no_text rows none (tasks.Survey a b) h = apart _ _ refl h.command
 no_text rows none (tasks.Explain a) h = apart _ _ refl h.command
 no_text rows none (tasks.ExplainAll a) h = apart _ _ refl h.command
+no_text rows none (tasks.ExplainNoted a) h = apart _ _ refl h.command
 no_text rows none (tasks.Compared a) h = apart _ _ refl h.command
 no_text rows none (tasks.Show a) h = apart _ _ refl h.command
 no_text rows none (tasks.ShowAll a) h = apart _ _ refl h.command
@@ -170,6 +186,7 @@ no_event rows none (tasks.CheckLine a b) h = apart _ _ refl h.command
 no_event rows none (tasks.Survey a b) h = apart _ _ refl h.command
 no_event rows none (tasks.Explain a) h = apart _ _ refl h.command
 no_event rows none (tasks.ExplainAll a) h = apart _ _ refl h.command
+no_event rows none (tasks.ExplainNoted a) h = apart _ _ refl h.command
 no_event rows none (tasks.Compared a) h = apart _ _ refl h.command
 no_event rows none (tasks.Show a) h = apart _ _ refl h.command
 no_event rows none (tasks.ShowAll a) h = apart _ _ refl h.command

@@ -27,6 +27,7 @@ json_task (tasks.CheckLine completeness name) = tasks.Json (reports.CheckLine co
 json_task (tasks.Survey completeness listing) = tasks.Json (reports.Survey completeness listing)
 json_task (tasks.Explain completeness) = tasks.Json (reports.Explain completeness)
 json_task (tasks.ExplainAll completeness) = tasks.Json (reports.ExplainAll completeness)
+json_task (tasks.ExplainNoted completeness) = tasks.Json (reports.ExplainNoted completeness)
 json_task (tasks.Show lines) = tasks.Json (reports.Show lines)
 json_task (tasks.ShowAll lines) = tasks.Json (reports.ShowAll lines)
 json_task task = task

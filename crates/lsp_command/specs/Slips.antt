@@ -24,6 +24,7 @@ uri_of (tasks.CheckLine completeness name) = None
 uri_of (tasks.Survey completeness listing) = None
 uri_of (tasks.Explain completeness) = None
 uri_of (tasks.ExplainAll completeness) = None
+uri_of (tasks.ExplainNoted completeness) = None
 uri_of (tasks.Compared which) = None
 uri_of (tasks.Show lines) = None
 uri_of (tasks.ShowAll lines) = None

@@ -20,6 +20,7 @@ use Rattle.lsp_frame.specs.Bounds.{Bounds}
 use Rattle.lsp_frame.specs.Told.{Told, CountsFailure, KeepsBytes}
 use Rattle.lsp_frame.specs.declared.io.Failed.{Failed}
 use Rattle.lsp_replay.specs.TextAnswers.{WritesText}
+use Rattle.lsp_explain.specs.AllNotes.{ExplainsNoted, noted_run}
 use Rattle.lsp_explain.specs.ExplainRuns.{all_run, explain_run}
 use Rattle.lsp_explain.specs.Explained.{ExplainsAll, WritesExplanation}
 use Rattle.lsp_explain.specs.Compared.{AnswersCompared}
@@ -35,6 +36,7 @@ use Rattle.lsp_command.specs.declared.command_line.task.Report.TheVariants as re
 use Rattle.lsp_command.specs.declared.command_line.task.Task.{Task}
 use Rattle.lsp_command.specs.declared.command_line.task.Task.TheVariants.{Check, CheckLine, Survey}
 use Rattle.lsp_command.specs.declared.command_line.task.Task.TheVariants.{Explain, ExplainAll}
+use Rattle.lsp_command.specs.declared.command_line.task.Task.TheVariants.{ExplainNoted}
 use Rattle.lsp_command.specs.declared.command_line.task.Task.TheVariants.{Compared, Show, ShowAll}
 use Rattle.lsp_command.specs.declared.command_line.task.Task.TheVariants.{Text, TextAll, Event}
 use Rattle.lsp_command.specs.declared.command_line.task.Task.TheVariants.{Normal, Upgrade, Redact, Frames, Json}
@@ -67,6 +69,8 @@ WritesReport limits (reports.Explain completeness) p ended =
     WritesJson (explain_run completeness) limits p ended
 WritesReport limits (reports.ExplainAll completeness) p ended =
     WritesJson (all_run completeness) limits p ended
+WritesReport limits (reports.ExplainNoted completeness) p ended =
+    WritesJson (noted_run completeness) limits p ended
 WritesReport limits (reports.Show lines) p ended = WritesJson (show_run lines) limits p ended
 WritesReport limits (reports.ShowAll lines) p ended = WritesJson (show_all_run lines) limits p ended
 
@@ -81,6 +85,8 @@ Answers limits (Explain completeness) p result =
     EndsRun (WritesExplanation completeness limits p) result
 Answers limits (ExplainAll completeness) p result =
     EndsRun (ExplainsAll completeness limits p) result
+Answers limits (ExplainNoted completeness) p result =
+    EndsRun (ExplainsNoted completeness limits p) result
 Answers limits (Compared which) p result =
     EndsRun (WritesText limits p (λ log. AnswersCompared limits log which)) result
 Answers limits (Show lines) p result = EndsRun (Showed lines limits p) result

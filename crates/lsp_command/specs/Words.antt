@@ -75,10 +75,15 @@ abbrev pub compared_of : Bool → Bool → Option ComparedText
 compared_of by_messages in_editor =
     if by_messages then Some ByMessages else if in_editor then Some InEditor else None
 
-abbrev pub explain_of : Completeness → Bool → Option ComparedText → Task
-explain_of completeness all None =
-    if all then tasks.ExplainAll completeness else tasks.Explain completeness
-explain_of completeness all (Some which) = tasks.Compared which
+-- what explains all that is wrong with a session, with the notes or without
+abbrev pub all_of_session : Completeness → Bool → Task
+all_of_session completeness notes =
+    if notes then tasks.ExplainNoted completeness else tasks.ExplainAll completeness
+
+abbrev pub explain_of : Completeness → Bool → Bool → Option ComparedText → Task
+explain_of completeness all notes None =
+    if all then all_of_session completeness notes else tasks.Explain completeness
+explain_of completeness all notes (Some which) = tasks.Compared which
 
 abbrev pub lines_of : Bool → Lines
 lines_of true = Long
@@ -106,14 +111,16 @@ pub record AsksCheck (rows : List Row) (completeness : Completeness) (listing : 
   pub listing_is : listing ≡ listing_of all every
 
 -- the session must be complete where the option for that is set, and all that is wrong is explained
--- where the option for that is set; one of two texts is written where an option for these is set
-pub record AsksExplain (rows : List Row) (completeness : Completeness) (all : Bool)
+-- where the option for that is set, with the notes where that for them is; one of two texts is
+-- written where an option for these is set
+pub record AsksExplain (rows : List Row) (completeness : Completeness) (all : Bool) (notes : Bool)
     (text : Option ComparedText) : Type 0 where
   pub complete : Bool
   pub by_messages : Bool
   pub in_editor : Bool
   pub complete_is : IsFlag (one_of (codes "complete") rows) complete
   pub all_is : IsFlag (one_of (codes "all") rows) all
+  pub notes_is : IsFlag (one_of (codes "notes") rows) notes
   pub by_messages_is : IsFlag (one_of (codes "by-messages") rows) by_messages
   pub in_editor_is : IsFlag (one_of (codes "in-editor") rows) in_editor
   pub completeness_is : completeness ≡ completeness_of complete
@@ -122,7 +129,12 @@ pub record AsksExplain (rows : List Row) (completeness : Completeness) (all : Bo
 -- this one is written, whatever else is asked for
 abbrev pub AsksCompared : List Row → ComparedText → Type 0
 AsksCompared rows which =
-    (completeness : Completeness) × (all : Bool) × AsksExplain rows completeness all (Some which)
+    (completeness : Completeness) × (all : Bool) × (notes : Bool)
+    × AsksExplain rows completeness all notes (Some which)
+
+-- the verdict is explained, whether notes are asked for or not: it has them
+abbrev pub AsksOne : List Row → Completeness → Type 0
+AsksOne rows completeness = (notes : Bool) × AsksExplain rows completeness false notes None
 
 -- the lines are long where the option for these is set, and each event that offends is skipped
 -- where the option for that is set
@@ -178,6 +190,7 @@ command_of (tasks.CheckLine completeness name) = codes "check"
 command_of (tasks.Survey completeness listing) = codes "check"
 command_of (tasks.Explain completeness) = codes "explain"
 command_of (tasks.ExplainAll completeness) = codes "explain"
+command_of (tasks.ExplainNoted completeness) = codes "explain"
 command_of (tasks.Compared which) = codes "explain"
 command_of (tasks.Show lines) = codes "show"
 command_of (tasks.ShowAll lines) = codes "show"
@@ -196,8 +209,9 @@ HasArguments rows (tasks.Check completeness) = AsksCheck rows completeness None
 -- no words ask for this: it is the task for each where several files are named
 HasArguments rows (tasks.CheckLine completeness name) = ⊥
 HasArguments rows (tasks.Survey completeness listing) = AsksCheck rows completeness (Some listing)
-HasArguments rows (tasks.Explain completeness) = AsksExplain rows completeness false None
-HasArguments rows (tasks.ExplainAll completeness) = AsksExplain rows completeness true None
+HasArguments rows (tasks.Explain completeness) = AsksOne rows completeness
+HasArguments rows (tasks.ExplainAll completeness) = AsksExplain rows completeness true false None
+HasArguments rows (tasks.ExplainNoted completeness) = AsksExplain rows completeness true true None
 HasArguments rows (tasks.Compared which) = AsksCompared rows which
 HasArguments rows (tasks.Show lines) = AsksShow rows lines false
 HasArguments rows (tasks.ShowAll lines) = AsksShow rows lines true

@@ -62,13 +62,15 @@ pub struct Pace<'a, V> {
 }
 
 impl<'a, V: Watch> Pace<'a, V> {
-    /// The pace of a task over an input of this supply: each offence of a list is passed on as soon
-    /// as it is found, and the line of an event before more is read.
+    /// The pace of a task over an input of this supply: each offence of a list, and each note, is
+    /// passed on as soon as it is found, and the line of an event before more is read.
     pub fn of(task: &Task<'_>, supply: &'a Supply<V>) -> Pace<'a, V> {
         let turn = match task {
             Task::Survey(..)
             | Task::ExplainAll(_)
-            | Task::Json(Report::Survey(..) | Report::ExplainAll(_)) => Turn::Always,
+            | Task::ExplainNoted(_)
+            | Task::Json(Report::Survey(..) | Report::ExplainAll(_) | Report::ExplainNoted(_)) =>
+                Turn::Always,
             Task::Show(_) | Task::ShowAll(_) | Task::Json(Report::Show(_) | Report::ShowAll(_)) => {
                 Turn::UsedUp
             }

@@ -12,6 +12,7 @@ use crate::task_outcome::{TaskOutcome, of_event, of_run};
 use crate::watch::Watch;
 use lsp_explain::{
     run_compared, run_explain, run_explain_all, run_explain_all_json, run_explain_json,
+    run_explain_noted, run_explain_noted_json,
 };
 use lsp_frame::{Failed, Limits, Sink, Source};
 use lsp_judge::{
@@ -54,6 +55,9 @@ pub fn run_task<R: Source, W: Sink>(
         }
         Task::ExplainAll(completeness) => {
             of_run(run_explain_all(alloc, source, sink, limits, completeness))
+        }
+        Task::ExplainNoted(completeness) => {
+            of_run(run_explain_noted(alloc, source, sink, limits, completeness))
         }
         Task::Compared(which) => of_run(run_compared(alloc, source, sink, limits, which)),
         Task::Show(Lines::Short) => of_run(run_show(alloc, source, sink, limits)),
@@ -99,6 +103,9 @@ fn run_json<R: Source, W: Sink>(
         }
         Report::ExplainAll(completeness) => {
             run_explain_all_json(alloc, source, sink, limits, completeness)
+        }
+        Report::ExplainNoted(completeness) => {
+            run_explain_noted_json(alloc, source, sink, limits, completeness)
         }
         Report::Show(lines) => run_show_json(alloc, source, sink, limits, lines),
         Report::ShowAll(lines) => run_show_all_json(alloc, source, sink, limits, lines),

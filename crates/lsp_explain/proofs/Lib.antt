@@ -39,3 +39,6 @@ pub mod AllExplanations
 pub mod OneExplanation
 pub mod Written
 pub mod QuietRuns
+pub mod BehindSteps
+pub mod NotedSteps
+pub mod NotesBeside

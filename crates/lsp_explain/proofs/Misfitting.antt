@@ -1,9 +1,10 @@
 -- What changes find that does not fit their text, with one event more.
 use Rattle.std.specs.Borrow.{Bor}
-use Rattle.std.specs.Prelude.{option_map, option_and_then, if◌then◌else◌, ◌&&◌, is_none, ℤ}
+use Rattle.std.specs.Prelude.{option_map, option_and_then, if◌then◌else◌, ◌&&◌, is_none, is_some}
+use Rattle.std.specs.Prelude.{ℤ}
 use Rattle.std.specs.List.{cons_option}
 use Rattle.std.proofs.Common.{◌≡◌, ℕ, Bool, true, false, List, [], ◌∷◌, ◌++◌, Option, Some, None}
-use Rattle.std.proofs.Common.{refl, sym, ap, ◌∙◌, subst, Result, Ok, Err, arith}
+use Rattle.std.proofs.Common.{refl, sym, ap, ◌∙◌, append-nil, subst, Result, Ok, Err, arith}
 use Rattle.lsp_docs.specs.Calls.{Call, opens, changes, closes, saves, shows, Text}
 use Rattle.lsp_docs.specs.Documents.{Terms, Version}
 use Rattle.lsp_docs.specs.Rules.{change_rule, text_rule}
@@ -28,11 +29,12 @@ use Rattle.lsp_replay.proofs.Seeing.{events-push}
 use Rattle.lsp_replay.specs.declared.heard.EventPlace.{EventPlace}
 use Rattle.lsp_explain.specs.DocumentNotes.{notes_view, with_note}
 use Rattle.lsp_explain.specs.Misfits.{AreMisfits, Found, MisfitsBy, call_found, event_found, finds}
-use Rattle.lsp_explain.specs.Misfits.{findings_of, found_kept, found_refuted, past_end_in}
-use Rattle.lsp_explain.specs.Misfits.{range_length_in}
+use Rattle.lsp_explain.specs.Misfits.{findings_of, found_kept, found_refuted, kept_found}
+use Rattle.lsp_explain.specs.Misfits.{past_end_in, range_length_in}
 use Rattle.lsp_explain.specs.declared.notes.misfits.Misfits.{Misfits}
 use Rattle.lsp_explain.proofs.DocumentNoting.{first_notes_more}
-use Rattle.lsp_explain.proofs.History.{kept_more, refused_more}
+use Rattle.lsp_explain.specs.History.{kept_as}
+use Rattle.lsp_verdict.proofs.LookBackLemmas.{each_of-snoc}
 
 -- ---- one finding more, or none
 
@@ -126,42 +128,57 @@ pub quiet_said : (terms : Terms) (before : List Call) (p : EventPlace) (said : O
 quiet_said terms before p None took is not = none_quiet
 quiet_said terms before p (Some call) took is not = quiet_call terms before p call took is not
 
-module _ (terms : Terms) (before : List Heard) (h : Heard) (old : Misfits)
-    (are : AreMisfits old (found_kept terms (heard_events before))) where
+-- the findings of all kept events are those of the last one behind the others
+pub found_kept-push : (terms : Terms) (before : List Heard) (h : Heard)
+    → found_kept terms (heard_events (before ++ h ∷ []))
+    ≡ found_kept terms (heard_events before)
+    ++ kept_found terms (heard_events before) h.note.event
+found_kept-push terms before h =
+    ap (found_kept terms) (events-push before h)
+    ∙ each_of-snoc (kept_as (event_found terms) terms) (heard_events before) h.note.event
+
+module _ (terms : Terms) (before : List Heard) (h : Heard) (old : Misfits) (found : List Found)
+    (are : AreMisfits old found) where
   abbrev events : List Event
   events = heard_events before
 
   abbrev e : Event
   e = h.note.event
 
+  -- what the event finds of this place, where it breaks this rule or is kept
+  abbrev finds_by : Option ℕ → EventPlace → List Found
+  finds_by rule p =
+      cons_option (if is_some rule then None
+      else event_found terms p (kept_before terms before) e) []
+
   -- **what is held stands for the findings of one event more**, which is kept
   pub misfits_kept : (new : Misfits) (p : EventPlace) (more : Option Found)
       → rule_of terms before h ≡ None → p ≡ place_of events e
       → event_found terms p (kept_before terms before) e ≡ more → MisfitsBy more old new
-      → AreMisfits new (found_kept terms (heard_events (before ++ h ∷ [])))
+      → AreMisfits new (found ++ kept_found terms events e)
   misfits_kept new p more kept at is by =
-      subst (AreMisfits new)
-      (sym (ap (found_kept terms) (events-push before h)
-      ∙ kept_more (event_found terms) terms events e p more kept at is))
-      (misfits_more old new (found_kept terms events) more are by)
+      subst (λ l. AreMisfits new (found ++ l))
+      (sym (ap (λ (o : Option ℕ). finds_by o (place_of events e)) kept
+      ∙ ap (finds_by None) (sym at) ∙ ap (λ (o : Option Found). cons_option o []) is))
+      (misfits_more old new found more are by)
 
   -- and of one that offends
   pub misfits_past : (rule : ℕ) → rule_of terms before h ≡ Some rule
-      → AreMisfits old (found_kept terms (heard_events (before ++ h ∷ [])))
+      → AreMisfits old (found ++ kept_found terms events e)
   misfits_past rule offends =
       subst (AreMisfits old)
-      (sym (ap (found_kept terms) (events-push before h)
-      ∙ refused_more (event_found terms) terms events e rule offends)) are
+      (sym (ap (λ (o : Option ℕ). found ++ finds_by o (place_of events e)) offends
+      ∙ append-nil found)) are
 
   -- **and for those of changes that a snapshot refutes**
   pub misfits_refuted : (new : Misfits) (more : Option Found) (rule : ℕ) → rule ≡ 702
       → event_found terms (place_of events e) (kept_before terms before) e ≡ more
       → MisfitsBy more old new
-      → AreMisfits new (found_kept terms events ++ found_refuted terms events e rule)
+      → AreMisfits new (found ++ found_refuted terms events e rule)
   misfits_refuted new more rule is finds_it by =
-      subst (λ l. AreMisfits new (found_kept terms events ++ l))
+      subst (λ l. AreMisfits new (found ++ l))
       (sym (ap (found_refuted terms events e) is ∙ ap (λ o. cons_option o []) finds_it))
-      (misfits_more old new (found_kept terms events) more are by)
+      (misfits_more old new found more are by)
 
 -- ---- changes that a snapshot refutes
 

@@ -4,6 +4,7 @@ use Rattle.std.specs.List.{cons_option}
 use Rattle.std.proofs.Common.{◌≡◌, ℕ, Bool, true, false, List, [], ◌∷◌, Option, Some, None, refl}
 use Rattle.std.proofs.Common.{ap, subst}
 use Rattle.lsp_docs.specs.Documents.{Terms}
+use Rattle.lsp_explain.specs.AllNotes.{noted_run}
 use Rattle.lsp_explain.specs.Explained.{Breach, Explained, breach, is_cause}
 use Rattle.lsp_explain.specs.ExplainRuns.{SaysCauses, all_run, explain_run, has_cause, may_keep}
 use Rattle.lsp_json_run.specs.JsonRun.{IsQuiet}
@@ -14,6 +15,10 @@ use Rattle.lsp_verdict.specs.declared.completeness.Completeness.{Completeness}
 -- `explain` wants memory for each event
 pub explain_quiet : (completeness : Completeness) → IsQuiet (explain_run completeness)
 explain_quiet completeness terms rests before h said wants is = absurd (cc wants)
+
+-- and so does `explain --all --notes`
+pub noted_quiet : (completeness : Completeness) → IsQuiet (noted_run completeness)
+noted_quiet completeness terms rests before h said wants is = absurd (cc wants)
 
 -- of two that fail together the second fails
 second : (a b : Bool) → (a || b) ≡ false → b ≡ false

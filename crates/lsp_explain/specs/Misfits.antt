@@ -24,7 +24,7 @@ use Rattle.lsp_verdict.specs.Report.{encoding_name}
 use Rattle.lsp_replay.specs.Lines.{place_of}
 use Rattle.lsp_replay.specs.declared.heard.EventPlace.{EventPlace}
 use Rattle.lsp_facts.specs.Fact.{Fact, position_words, spaced}
-use Rattle.lsp_explain.specs.History.{OnDocument, each_kept, on_document}
+use Rattle.lsp_explain.specs.History.{OnDocument, each_kept, kept_as, on_document}
 use Rattle.lsp_explain.specs.DocumentNotes.{DocumentNote, document_line, document_note}
 use Rattle.lsp_explain.specs.DocumentNotes.{first_notes, notes_view, with_note}
 use Rattle.lsp_explain.specs.declared.notes.misfits.Misfits as code
@@ -60,6 +60,10 @@ event_found terms p before event =
 -- **what the changes find that are kept**
 abbrev pub found_kept : Terms → List Event → List Found
 found_kept terms events = each_kept (event_found terms) terms events
+
+-- what those of one event find, if it is kept
+abbrev pub kept_found : Terms → List Event → Event → List Found
+kept_found terms before event = cons_option (kept_as (event_found terms) terms before event) []
 
 -- **what those find that break 702**: they can be made, and are refuted by a snapshot
 abbrev pub found_refuted : Terms → List Event → Event → ℕ → List Found

@@ -53,6 +53,10 @@ abbrev pub other_name : Option (List ℕ) → Option Encoding → Option (List �
 other_name None agreed = None
 other_name (Some name) agreed = differing name agreed
 
+-- that of these messages
+abbrev pub name_of : List Numbered → Option (List ℕ)
+name_of said = other_name (older_encoding (sents said)) (encoding (sents said))
+
 -- of a Yes: that no snapshot was compared, or else these documents that have none
 abbrev pub uncompared : Verdict → List (List ℕ) → List Fact
 uncompared (yes s) unshown =
@@ -75,11 +79,12 @@ abbrev pub old_name_notes : Option OnDocument → List Fact
 old_name_notes found = option_to_list (option_map
     (λ (x : OnDocument). line (codes "note renamed" ∷ quoted x.uri ∷ place_words x.place)) found)
 
--- what the notes are on: messages, the documents that were changed and have no snapshot, what
--- changes found, the documents about which a request was refused, and the URIs under which one was
--- named that is open under another
+-- what the notes are on: messages, the `exit` without a `shutdown` before it, the documents that
+-- were changed and have no snapshot, what changes found, the documents about which a request was
+-- refused, and the URIs under which one was named that is open under another
 pub record Noticed : Type 0 where
   pub said : List Numbered
+  pub exit : Option EventPlace
   pub unshown : List (List ℕ)
   pub found : List Found
   pub refused : List DocumentNote
@@ -89,17 +94,22 @@ pub record Noticed : Type 0 where
 abbrev pub noticed : Terms → List Event → List Found → Noticed
 noticed terms events found = record {
   said = numbered terms events;
+  exit = abrupt_exit (numbered terms events);
   unshown = unshown terms events;
   found = found;
   refused = refusals terms events;
   spelled = spellings terms events;
 }
 
+-- the same with this `exit`
+abbrev pub with_exit : Option EventPlace → Noticed → Noticed
+with_exit exit n = record n { exit = exit }
+
 -- **the notes on these**, with this verdict
 abbrev pub notes_by : Verdict → Noticed → List Fact
 notes_by v n =
-    map misuse_line (misuses n.said) ++ exit_notes (abrupt_exit n.said)
-    ++ name_notes (other_name (older_encoding (sents n.said)) (encoding (sents n.said)))
+    map misuse_line (misuses n.said) ++ exit_notes n.exit
+    ++ name_notes (name_of n.said)
     ++ old_name_notes (renamed n.said)
     ++ uncompared v n.unshown
     ++ misfit_notes n.found

@@ -1,4 +1,5 @@
 //! Laws of what is explained.
+ghost use Rattle.lsp_explain.specs.AllNotes.{NotesAreBeside};
 ghost use Rattle.lsp_explain.specs.AsciiLines.{NoFitsInAscii};
 ghost use Rattle.lsp_explain.specs.Compared.{OneComparedText};
 ghost use Rattle.lsp_explain.specs.Explained.{BeginsWithReport, CausesAreExplained, FirstIsVerdict};
@@ -44,6 +45,11 @@ pub fn some_explanation_of_all()
 /// And one only.
 pub fn one_explanation_of_all()
     ensures { OneExplanationOfAll }
+{}
+
+/// Without its notes, what `explain --all --notes` writes of a log is what `explain --all` does.
+pub fn notes_are_beside()
+    ensures { NotesAreBeside }
 {}
 
 /// A log has one answer for each of the two texts of a verdict that says that they differ.

@@ -53,6 +53,7 @@ pub(crate) fn is_open(docs: &Docs<Lined>, uri: &str) -> bool
 }
 
 /// The URI, if no document of it is open.
+#[inline(never)]
 pub(crate) fn if_unopened<'a>(docs: &Docs<Lined>, uri: &'a str) -> Option<&'a str>
     ensures { (calls : List SpecCall) → Stands docs.now calls
         → option_map (λ uri. uri.now) result ≡ spec.if_unopened docs.now.terms calls uri.now }

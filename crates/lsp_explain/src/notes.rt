@@ -1,17 +1,22 @@
 //! The notes on a session, which change no verdict.
-ghost use Rattle.std.specs.Prelude.{◌≡◌, ◌++◌, List, OnOk, map, option_map, string_bytes};
+ghost use Rattle.std.specs.Prelude.{◌≡◌, ◌++◌, List, IfOk, OnOk, length, map, option_map};
+ghost use Rattle.std.specs.Prelude.{string_bytes};
+ghost use Rattle.lsp_explain.specs.Asking.{numbered};
 ghost use Rattle.lsp_explain.specs.SessionNotes.{misused_views};
 ghost use Rattle.lsp_explain.specs.Openings.{names_view, on_view};
 ghost use Rattle.lsp_verdict.specs.Event.{Event};
 ghost use Rattle.lsp_verdict.specs.Given.{verdict_view};
 ghost use Rattle.lsp_explain.specs.Misfits.{AreMisfits, Found};
 ghost use Rattle.lsp_explain.specs.Notes as spec;
-ghost use Rattle.lsp_explain.specs.Notes.{misuse_line, name_notes, noticed, old_name_notes};
-ghost use Rattle.lsp_explain.specs.Notes.{note_lines, notes_by, uncompared, unshown_line};
+ghost use Rattle.lsp_explain.specs.Notes.{count_line, misuse_line, name_notes, name_of, noticed};
+ghost use Rattle.lsp_explain.specs.Notes.{note_lines, notes_by, old_name_notes, uncompared};
+ghost use Rattle.lsp_explain.specs.Notes.{unshown_line, with_exit};
 ghost use Rattle.lsp_explain.specs.Refusals.{AreRefusals};
 ghost use Rattle.lsp_explain.specs.Spellings.{AreSpellings};
 ghost use Rattle.lsp_explain.specs.Trails.{StandsAfter, terms_in};
 
+mod along;
+mod behind;
 mod document_notes;
 mod misfits;
 mod refusals;
@@ -20,13 +25,19 @@ mod spellings;
 
 use crate::trace::push_earlier;
 use crate::trail::{DocumentEvent, Misuse, Misused, Past};
+pub(crate) use along::NotesAlong;
 use lsp_facts::{Facts, push_facts};
+use lsp_replay::EventPlace;
 use lsp_rpc::{Encoding, Result};
 use lsp_verdict::{Verdict, encoding_name};
 pub(crate) use misfits::Misfits;
 pub(crate) use refusals::Refusals;
 pub(crate) use spellings::Spellings;
+use std::alloc::Global;
 use std::fmt::Write;
+
+/// The words of the note on an `exit` without a `shutdown`.
+const ABRUPT_EXIT: &str = "note exit-without-shutdown";
 
 /// Adds the notes on the messages that were heard, each on a line, and how many they are.
 ///
@@ -47,29 +58,49 @@ pub(crate) fn push_notes(
         → string_bytes lines.new ≡ string_bytes lines.old ++ note_lines
         (notes_by (verdict_view verdict.now) (noticed (terms_in past.entry) before found))) }
 {
-    let Past { held, trail } = past;
-    let heard = &trail.said.notes;
-    let name = other_name(heard.older_encoding(), held.session.encoding());
-    let renamed = trail.said.renames.renamed();
-    let unshown = trail.openings.unshown()?;
-    let mut notes = Facts::new(*lines.allocator());
-    push_misuses(&mut notes, heard.misuses.as_slice())?;
-    push_earlier(&mut notes, "note exit-without-shutdown", heard.abrupt_exit)?;
-    push_name(&mut notes, name)?;
-    push_renamed(&mut notes, renamed)?;
+    let alloc = *lines.allocator();
+    let exit = past.trail.said.notes.abrupt_exit;
+    let notes = notes_of(alloc, past, exit, misfits, refusals, spellings, verdict)?;
+    push_facts(lines, &notes)?;
+    push_count(lines, &notes)
+}
+
+/// All notes on the messages that were heard, where this is the `exit` without a `shutdown`.
+fn notes_of(
+    alloc: Global,
+    past: Past<'_>,
+    exit: Option<EventPlace>,
+    misfits: &Misfits,
+    refusals: &Refusals,
+    spellings: &Spellings,
+    verdict: &Verdict,
+) -> Result<Facts>
+    ensures { IfOk result (λ notes. (before : List Event) (found : List Found)
+        → StandsAfter past.entry before → AreMisfits misfits.now found
+        → AreRefusals (terms_in past.entry) refusals.now before
+        → AreSpellings (terms_in past.entry) spellings.now before
+        → notes ≡ notes_by (verdict_view verdict.now)
+        (with_exit exit (noticed (terms_in past.entry) before found))) }
+{
+    let said = &past.trail.said;
+    let unshown = past.trail.openings.unshown()?;
+    let mut notes = Facts::new(alloc);
+    push_misuses(&mut notes, said.notes.misuses.as_slice())?;
+    push_earlier(&mut notes, ABRUPT_EXIT, exit)?;
+    push_name(&mut notes, name_in(past))?;
+    push_renamed(&mut notes, said.renames.renamed())?;
     push_uncompared(&mut notes, verdict, unshown.as_slice())?;
     misfits.push(&mut notes)?;
     refusals.push(&mut notes)?;
     spellings.push(&mut notes)?;
-    push_counted(lines, &notes)
+    Ok(notes)
 }
 
-/// Adds the lines of notes, and how many they are, if there are any.
-fn push_counted(lines: &mut String, notes: &Facts) -> Result<()>
+/// Adds how many notes there are, if there are any.
+fn push_count(lines: &mut String, notes: &Facts) -> Result<()>
     ensures { OnOk result (string_bytes lines.new
-        ≡ string_bytes lines.old ++ note_lines notes.now) }
+        ≡ string_bytes lines.old ++ count_line (length notes.now)) }
 {
-    push_facts(lines, notes)?;
     let count = notes.len();
     if count > 0 {
         writeln!(lines, "notes {count}")?;
@@ -98,6 +129,16 @@ fn misuse_key(misuse: Misuse) -> &'static str
         Misuse::ByEditor => "note by-editor",
         Misuse::ByServer => "note by-server",
     }
+}
+
+/// The encoding that the answer to `initialize` names in the older way, where it is not the agreed
+/// one.
+fn name_in<'a>(past: Past<'a>) -> Option<&'a str>
+    ensures { (before : List Event) → StandsAfter past.entry before
+        → option_map (λ s. s.now) result ≡ name_of (numbered (terms_in past.entry) before) }
+{
+    let Past { held, trail } = past;
+    other_name(trail.said.notes.older_encoding(), held.session.encoding())
 }
 
 /// Adds the encoding that is named in the older way, if there is one.

@@ -1,13 +1,17 @@
 //! Explains all that is wrong with a log.
-ghost use Rattle.std.specs.Prelude.{◌≡◌, ◌++◌, [], List, OnOk, map, string_bytes};
+ghost use Rattle.std.specs.Prelude.{◌≡◌, ◌++◌, ◌<◌, ◌^◌, [], List, IfOk, OnOk, length, map};
+ghost use Rattle.std.specs.Prelude.{string_bytes};
 ghost use Rattle.std.specs.List.{flat_map};
 ghost use Rattle.lsp_docs.specs.Documents.{Terms};
+ghost use Rattle.lsp_replay.specs.Telling.{Closes, IsEnd, Stood};
 ghost use Rattle.lsp_survey.specs.Reported.{IsTally};
 ghost use Rattle.lsp_verdict.specs.Event.{Event};
 ghost use Rattle.lsp_verdict.specs.Given.{offence_view};
+ghost use Rattle.lsp_verdict.specs.Heard.{Heard};
 ghost use Rattle.lsp_verdict.specs.Offences.{Offence as SpecOffence};
 ghost use Rattle.lsp_verdict.specs.Runs.{ports};
 ghost use Rattle.lsp_verdict.specs.declared.completeness.Completeness.{Completeness};
+ghost use Rattle.lsp_verdict.specs.declared.outcome.Outcome.TheVariants.{Judged};
 ghost use Rattle.lsp_explain.specs.Asking.{numbered};
 ghost use Rattle.lsp_explain.specs.ExplainRuns.{AllStands, rests_held, all_run};
 ghost use Rattle.lsp_explain.specs.Explained.{ExplainsAll, cause_lines, end_explained};
@@ -20,7 +24,7 @@ use lsp_replay::{Account, End, Events, Fate, Flow, LogEvents, Seen, last_offence
 use lsp_rpc::Result;
 use lsp_survey::{Losses, OffenceCount, SessionEnd, session_end};
 use lsp_text::Lined;
-use lsp_verdict::{Completeness, Offence, Outcome, RunFault};
+use lsp_verdict::{Completeness, Offence, Outcome, RunFault, Verdict};
 use std::alloc::Global;
 
 /// Reads a log to its end, and explains each offence in it that follows from no earlier one: the
@@ -54,10 +58,10 @@ pub fn run_explain_all<R: Source, W: Sink>(
 /// Explains each offence of a log that follows from no earlier one, and how the log ends.
 #[derive(Drop)]
 pub(crate) struct AllCauses {
-    completeness: Completeness,
+    pub(crate) completeness: Completeness,
     losses: Losses,
     tally: OffenceCount,
-    trail: Trail,
+    pub(crate) trail: Trail,
 }
 
 impl AllCauses {
@@ -72,6 +76,32 @@ impl AllCauses {
             tally: OffenceCount::new(),
             trail: Trail::new(alloc),
         }
+    }
+
+    /// Says what there is to say at the end of the log, and gives the verdict.
+    pub(crate) fn close(
+        &mut self,
+        held: &Events<Lined>,
+        log: &LogEvents,
+        end: End,
+        text: &mut String,
+    ) -> Result<Verdict>
+        ensures trail { self.new.trail ≡ self.old.trail }
+        ensures closes { IfOk result (λ verdict. (terms : Terms) (heard : List Heard)
+            → AllStands self.old terms heard
+            → Stood terms held.now.session held.now.docs held.now.counts heard
+            → length heard < 2 ^ 63
+            → Closes (all_run self.old.completeness) terms heard (IsEnd log.now end heard)
+            (string_bytes text.old) (string_bytes text.new) (Judged verdict)) }
+    {
+        let SessionEnd { listed, bad } = session_end(held, log, end, self.completeness)?;
+        let trail = &self.trail;
+        let past = Past { held, trail };
+        explain_ends(&mut self.tally, past, log, listed.as_slice(), text)?;
+        let verdict = self.tally.push_verdict(held, bad, text)?;
+        push_flaw(text, log, end)?;
+        self.tally.push_count(text)?;
+        Ok(verdict)
     }
 }
 
@@ -131,13 +161,7 @@ impl Account for AllCauses {
         end: End,
         text: &mut String,
     ) -> Result<Outcome> {
-        let SessionEnd { listed, bad } = session_end(held, log, end, self.completeness)?;
-        let trail = &self.trail;
-        let past = Past { held, trail };
-        explain_ends(&mut self.tally, past, log, listed.as_slice(), text)?;
-        let verdict = self.tally.push_verdict(held, bad, text)?;
-        push_flaw(text, log, end)?;
-        self.tally.push_count(text)?;
+        let verdict = self.close(held, log, end, text)?;
         Ok(Outcome::Judged(verdict))
     }
 }

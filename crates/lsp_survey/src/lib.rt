@@ -24,7 +24,7 @@ pub use end_of_session::{SessionEnd, session_end};
 pub use laws::{all_shown_is_report, one_all_shown, one_kept_text};
 pub use losses::Losses;
 pub use lsp_verdict::Listing;
-pub use notes::{folded, forget};
+pub use notes::{Uris, add_uri, folded, forget, forget_uri, renews, reopens, sets_text};
 pub use offence_count::OffenceCount;
 pub use run::{run_show_all, run_survey};
 pub use text::run_text_all;

@@ -26,6 +26,8 @@ pub enum Task<'a> {
     Explain(Completeness),
     /// To explain all that is wrong with a recorded session, which must be complete or not.
     ExplainAll(Completeness),
+    /// The same with the notes on what breaks no rule.
+    ExplainNoted(Completeness),
     /// To write one of the two texts of a verdict that says that they differ.
     Compared(ComparedText),
     /// To list the events of a recorded session by short or long lines, and to judge it.
@@ -71,6 +73,7 @@ pub enum Report<'a> {
     Survey(Completeness, Listing),
     Explain(Completeness),
     ExplainAll(Completeness),
+    ExplainNoted(Completeness),
     Show(Lines),
     ShowAll(Lines),
 }
@@ -148,6 +151,7 @@ impl<'a> Task<'a> {
             }
             Task::Explain(completeness) => Task::Json(Report::Explain(completeness)),
             Task::ExplainAll(completeness) => Task::Json(Report::ExplainAll(completeness)),
+            Task::ExplainNoted(completeness) => Task::Json(Report::ExplainNoted(completeness)),
             Task::Show(lines) => Task::Json(Report::Show(lines)),
             Task::ShowAll(lines) => Task::Json(Report::ShowAll(lines)),
             task => task,

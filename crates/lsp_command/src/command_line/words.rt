@@ -76,18 +76,26 @@ fn compared_of(by_messages: bool, in_editor: bool) -> Option<ComparedText>
     }
 }
 
-/// What explains the verdict on a session, or all that is wrong with it, where the option for that
-/// is set or not; or one of the two texts of the verdict.
-fn explain_of<'a>(completeness: Completeness, all: bool, text: Option<ComparedText>) -> Task<'a>
-    ensures { result ≡ explain_of completeness all text }
+/// What explains the verdict on a session, or all that is wrong with it, with the notes or without,
+/// where the options for these are set or not; or one of the two texts of the verdict.
+fn explain_of<'a>(
+    completeness: Completeness,
+    all: bool,
+    notes: bool,
+    text: Option<ComparedText>,
+) -> Task<'a>
+    ensures { result ≡ explain_of completeness all notes text }
 {
     if let Some(which) = text {
         return Task::Compared(which);
     }
-    if all {
-        Task::ExplainAll(completeness)
+    if !all {
+        return Task::Explain(completeness);
+    }
+    if notes {
+        Task::ExplainNoted(completeness)
     } else {
-        Task::Explain(completeness)
+        Task::ExplainAll(completeness)
     }
 }
 
@@ -169,6 +177,7 @@ fn explain_task<'a>(arguments: &ArgMatches<'_>) -> Task<'a>
     explain_of(
         completeness_of(is_set(arguments, "complete")),
         is_set(arguments, "all"),
+        is_set(arguments, "notes"),
         compared_of(
             is_set(arguments, "by-messages"),
             is_set(arguments, "in-editor"),

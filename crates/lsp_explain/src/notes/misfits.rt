@@ -12,8 +12,8 @@ ghost use Rattle.lsp_docs.specs.Taken.{call_view};
 ghost use Rattle.lsp_explain.specs.DocumentNotes.{document_note, notes_view, with_note};
 ghost use Rattle.lsp_explain.specs.History.{on_document};
 ghost use Rattle.lsp_explain.specs.Misfits as spec;
-ghost use Rattle.lsp_explain.specs.Misfits.{AreMisfits, MisfitsBy, finds, found_kept};
-ghost use Rattle.lsp_explain.specs.Misfits.{found_refuted, misfit_notes};
+ghost use Rattle.lsp_explain.specs.Misfits.{AreMisfits, MisfitsBy, finds, found_refuted};
+ghost use Rattle.lsp_explain.specs.Misfits.{kept_found, misfit_notes};
 ghost use Rattle.lsp_facts.specs.Fact.{spaced};
 ghost use Rattle.lsp_replay.specs.Telling.{IsSeen, rule_of};
 ghost use Rattle.lsp_text.specs.Changes.{edits_of};
@@ -41,8 +41,8 @@ use std::fmt::Write;
 /// It stands for what the changes of a session found.
 #[derive(Drop)]
 pub(crate) struct Misfits {
-    past_ends: Vec<DocumentNote>,
-    range_lengths: Vec<DocumentNote>,
+    pub(crate) past_ends: Vec<DocumentNote>,
+    pub(crate) range_lengths: Vec<DocumentNote>,
 }
 
 impl Misfits {
@@ -66,9 +66,9 @@ impl Misfits {
     #[inline(always)]
     pub(crate) fn note_kept(&mut self, held: &Events<Lined>, seen: &Seen<'_>) -> Result<()>
         ensures { OnOk result ((terms : Terms) (before : List Heard) (h : Heard)
-            → AreMisfits self.old (found_kept terms (heard_events before))
+            (found : List spec.Found) → AreMisfits self.old found
             → IsSeen held.now.session held.now.docs held.now.counts seen.now terms before h
-            → AreMisfits self.new (found_kept terms (heard_events (before ++ h ∷ [])))) }
+            → AreMisfits self.new (found ++ kept_found terms (heard_events before) h.note.event)) }
     {
         let Fate::Kept(took) = &seen.fate else {
             return Ok(());
@@ -95,10 +95,10 @@ impl Misfits {
         rule: u16,
     ) -> Result<()>
         ensures { OnOk result ((terms : Terms) (before : List Heard) (h : Heard)
-            → AreMisfits self.old (found_kept terms (heard_events before))
+            (found : List spec.Found) → AreMisfits self.old found
             → IsSeen held.now.session held.now.docs held.now.counts seen.now terms before h
             → rule_of terms before h ≡ Some rule
-            → AreMisfits self.new (found_kept terms (heard_events before)
+            → AreMisfits self.new (found
             ++ found_refuted terms (heard_events before) h.note.event rule)) }
     {
         if rule != rules::SNAPSHOT_DIFFERS {

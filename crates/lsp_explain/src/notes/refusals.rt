@@ -39,7 +39,7 @@ const INVALID_PARAMS: i32 = -32602;
 #[derive(Drop)]
 pub(crate) struct Refusals {
     asked: VecDeque<Request>,
-    refused: Vec<DocumentNote>,
+    pub(crate) refused: Vec<DocumentNote>,
 }
 
 impl Refusals {

@@ -38,7 +38,7 @@ use std::alloc::Global;
 /// It stands for the events of a session.
 #[derive(Drop)]
 pub(crate) struct Spellings {
-    named: Vec<DocumentNote>,
+    pub(crate) named: Vec<DocumentNote>,
 }
 
 /// A URI, and its spelling folded, that open documents are compared with.

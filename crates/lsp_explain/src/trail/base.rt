@@ -1,15 +1,17 @@
 //! A text from which a document may have drifted, and the changes since.
-ghost use Rattle.std.specs.Prelude.{◌≡◌, ◌+◌, ◌<◌, ◌≤◌, IfOk, MatchOption, filter, int_lt};
+ghost use Rattle.std.specs.Prelude.{◌≡◌, ◌+◌, ◌<◌, ◌≤◌, MatchOption, filter, int_lt};
 ghost use Rattle.std.specs.Str.{chars};
 ghost use Rattle.lsp_docs.specs.Calls.{byte_len};
 ghost use Rattle.lsp_text.specs.Changes.{edit_of, edits_of};
 ghost use Rattle.lsp_explain.specs.SentEdits.{edits_size, most_size, per_change, sents_view};
 ghost use Rattle.lsp_explain.specs.SentEdits.{total_size, weight};
 
+use crate::trail::copies::write_over;
 use lsp_rpc::Result;
 use lsp_text::Lined;
 use lsp_types::Change;
-use std::alloc::{AllocError, Global};
+use std::alloc::Global;
+use std::mem;
 
 /// How many messages are held of a document at most: the 17 that may be named as suspects, and
 /// those that set the 16 versions that may be kept after the one that differs.
@@ -37,6 +39,8 @@ pub(crate) struct Base {
     pub(crate) sent: Vec<SentChanges>,
     /// How large further changes may be.
     room: u64,
+    /// The changes that were let go of last, over which others are written.
+    spare: Vec<Change>,
     ghost counted: { room + total_size (sents_view sent.items) ≡ most_size },
 }
 
@@ -56,6 +60,7 @@ impl Base {
             text: Some(text),
             sent: Vec::new(alloc),
             room: MOST_SIZE,
+            spare: Vec::new(alloc),
         }
     }
 
@@ -87,8 +92,12 @@ impl Base {
             self.text = None;
             return Ok(());
         };
-        let changes = copies_of(*self.sent.allocator(), changes)?;
-        self.sent.push(SentChanges { version, changes })?;
+        let mut copies = mem::replace(&mut self.spare, Vec::new(*self.sent.allocator()));
+        write_over(&mut copies, changes)?;
+        self.sent.push(SentChanges {
+            version,
+            changes: copies,
+        })?;
         self.room = room;
         Ok(())
     }
@@ -116,6 +125,7 @@ impl Base {
         self.since = first.version;
         self.text = None;
         self.room += size_of_changes(first.changes.as_slice());
+        self.spare = first.changes;
     }
 
     /// Whether the text was held before, as is said, and is not held now.
@@ -200,26 +210,4 @@ fn drop_until(sent: &mut Vec<SentChanges>, version: i32)
     ensures { sent.new.items ≡ filter (λ one. int_lt version one.version) sent.old.items }
 {
     sent.retain(|one| version < one.version);
-}
-
-/// Copies of changes.
-pub(crate) fn copies_of(alloc: Global, changes: &[Change]) -> Result<Vec<Change>, AllocError>
-    ensures { IfOk result (λ copies. edits_of copies.items ≡ edits_of changes.now) }
-{
-    let mut copies = Vec::with_capacity(alloc, changes.len())?;
-    for change in changes {
-        let copy = copy_of(alloc, change)?;
-        copies.push(copy)?;
-    }
-    Ok(copies)
-}
-
-fn copy_of(alloc: Global, change: &Change) -> Result<Change, AllocError>
-    ensures { IfOk result (λ copy. edit_of copy ≡ edit_of change.now) }
-{
-    Ok(Change {
-        span: change.span,
-        range_length: change.range_length,
-        text: String::from_str(alloc, change.text.as_str())?,
-    })
 }

@@ -25,7 +25,7 @@ fn any_whole(changes: &[Change]) -> bool
 
 /// Whether a call gives the whole text of its document again.
 #[inline(always)]
-fn renews(call: Call<'_>) -> bool
+pub fn renews(call: Call<'_>) -> bool
     ensures { result ≡ renews (call_view call.entry) }
 {
     match call {
@@ -56,7 +56,7 @@ fn holds_other<S: TextStore>(docs: &Docs<S>, uri: &str, version: i32, text: &str
 }
 
 /// Whether a call opens a document that is open, with another version or text than is held of it.
-fn reopens<S: TextStore>(docs: &Docs<S>, call: Call<'_>) -> bool
+pub fn reopens<S: TextStore>(docs: &Docs<S>, call: Call<'_>) -> bool
     ensures { (calls : List SpecCall) → Stands docs.now calls
         → result ≡ is_reopened docs.now.terms calls (Some (call_view call.entry)) }
 {

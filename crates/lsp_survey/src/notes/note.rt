@@ -3,16 +3,15 @@ ghost use Rattle.std.specs.Prelude.{◌≡◌, false, List, ℕ, IfOk, None, OnO
 ghost use Rattle.std.specs.Prelude.{if◌then◌else◌, option_map};
 ghost use Rattle.std.specs.Str.{bytes_eq};
 ghost use Rattle.lsp_docs.specs.Taken.{call_view};
-ghost use Rattle.lsp_survey.specs.Notes.{PutsSpelling, Sets, SetsAlike, has_uri, is_lost_in};
+ghost use Rattle.lsp_survey.specs.Notes.{PutsSpelling, Sets, SetsAlike, is_lost_in};
 ghost use Rattle.lsp_survey.specs.Notes.{is_noted, is_noted_lost, lost_among, spelling_in};
 
 use crate::notes::spelling::folded;
+use crate::notes::uris::{Uris, add_uri, forget_uri};
 use indexmap::IndexMap;
 use lsp_docs::Call;
 use lsp_rpc::Result;
 use std::alloc::Global;
-
-type Uris = IndexMap<String, ()>;
 
 /// The documents whose URIs differ in their spelling alone: all of them are lost or none, but for
 /// some.
@@ -50,10 +49,10 @@ impl Spelling {
             ≡ (if bytes_eq uri.now u then lost else is_lost_in self.old u)) }
     {
         if lost == self.lost {
-            forget(&mut self.others, uri);
+            forget_uri(&mut self.others, uri);
             Ok(())
         } else {
-            add(&mut self.others, uri)
+            add_uri(&mut self.others, uri)
         }
     }
 }
@@ -170,20 +169,4 @@ fn put(map: &mut Spellings, key: Vec<u8>, spelling: Spelling) -> Result<()>
 {
     map.insert(key, spelling)?;
     Ok(())
-}
-
-fn add(uris: &mut Uris, uri: &str) -> Result<()>
-    ensures { OnOk result ((u : List ℕ) → has_uri uris.new.entries u
-        ≡ (if bytes_eq uri.now u then true else has_uri uris.old.entries u)) }
-{
-    let key = String::from_str(*uris.allocator(), uri)?;
-    uris.insert(key, ())?;
-    Ok(())
-}
-
-fn forget(uris: &mut Uris, uri: &str)
-    ensures { (u : List ℕ) → has_uri uris.new.entries u
-        ≡ (if bytes_eq uri.now u then false else has_uri uris.old.entries u) }
-{
-    let _ = uris.swap_remove(uri);
 }

@@ -55,7 +55,7 @@ pub(crate) fn breaks_handshake(asks: bool, rule: u16) -> bool
 }
 
 /// Whether a call opens its document or changes it, so that its sender has another text.
-fn sets_text(call: Call<'_>) -> bool
+pub fn sets_text(call: Call<'_>) -> bool
     ensures { result ≡ sets_text (call_view call.entry) }
 {
     match call {

@@ -15,6 +15,10 @@ returns-in-Explain g c = rw c.in-Explain.is (record { json = c.run_explain_json.
 pub returns-in-ExplainAll : goal.returns-in-ExplainAll
 returns-in-ExplainAll g c = rw c.in-ExplainAll.is (record { json = c.run_explain_all_json.ensures.json })
 
+pub returns-in-ExplainNoted : goal.returns-in-ExplainNoted
+returns-in-ExplainNoted g c =
+    rw c.in-ExplainNoted.is (record { json = c.run_explain_noted_json.ensures.json })
+
 pub returns-in-Show : goal.returns-in-Show
 returns-in-Show g c = rw c.in-Show.is (record { json = c.run_show_json.ensures.json })
 

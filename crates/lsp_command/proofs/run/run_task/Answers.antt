@@ -1,4 +1,4 @@
-use Rattle.lsp_command.proofs.Endings.{event_ended, report_ended, run_ended}
+use Rattle.lsp_command.proofs.Endings.{event_ended, passes_ended, report_ended, run_ended}
 use Rattle.lsp_command.proofs.run.run_task.Goals as goal
 
 pub returns-in-Check-Ignored : goal.returns-in-Check-Ignored
@@ -40,6 +40,12 @@ returns-in-ExplainAll g c =
     let is = c.run_explain_all.ensures.explains in
     let of = c.of_run-in-ExplainAll.ensures in
     rw c.in-ExplainAll.is (record { ran = run_ended _ _ _ _ _ of is.counts (_, of, is) })
+
+pub returns-in-ExplainNoted : goal.returns-in-ExplainNoted
+returns-in-ExplainNoted g c =
+    let is = c.run_explain_noted.ensures.explains in
+    let of = c.of_run-in-ExplainNoted.ensures in
+    rw c.in-ExplainNoted.is (record { ran = passes_ended _ _ _ _ _ _ of is (_, of, is) })
 
 pub returns-in-Compared : goal.returns-in-Compared
 returns-in-Compared g c =

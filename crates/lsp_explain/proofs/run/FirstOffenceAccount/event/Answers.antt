@@ -7,11 +7,12 @@ use Rattle.lsp_replay.specs.declared.seen.Fate.{Fate}
 use Rattle.lsp_verdict.specs.Given.{verdict_view}
 use Rattle.lsp_verdict.specs.Heard.{heard_events}
 use Rattle.lsp_verdict.specs.Offences.{Offence}
-use Rattle.lsp_explain.specs.Misfits.{found_kept, found_refuted}
+use Rattle.lsp_explain.specs.Misfits.{AreMisfits, found_kept, found_refuted}
 use Rattle.lsp_explain.specs.Notes.{noticed, note_lines, notes_by}
 use Rattle.lsp_explain.specs.Refusals.{AreRefusals}
 use Rattle.lsp_explain.specs.Spellings.{AreSpellings}
 use Rattle.lsp_explain.proofs.AccountSteps.{first_kept, first_told}
+use Rattle.lsp_explain.proofs.Misfitting.{found_kept-push}
 use Rattle.lsp_explain.proofs.Telling.{stands_before, told_of}
 use Rattle.lsp_explain.proofs.run.FirstOffenceAccount.event.Goals as goal
 
@@ -24,7 +25,8 @@ returns-in_default c = record {
       let rule = kept_seen terms before h c.args.seen.now.fate c.in_default.not-Offends seen.fate in
       first_kept terms before h c.args.self.now _ stands (ShowsFault c.args.seen.now.raw)
       (string_bytes c.args.text.now) rule (c.in_ok-keep.ensures terms before h stands.trail seen)
-      (c.in_ok-note_kept.ensures terms before h stands.misfits seen)
+      (subst (AreMisfits _) (sym (found_kept-push terms before h))
+      (c.in_ok-note_kept.ensures terms before h _ stands.misfits seen))
       (c.in_ok-note_event.ensures terms before h stands.trail stands.refusals seen rule)
       (c.in_ok-note_event-2.ensures terms before h stands.trail stands.spellings seen rule);
 }
@@ -88,7 +90,7 @@ returns c = record {
       (verdict_view verdict) (noticed t (heard_events before) found))) seen.stood.by
       (c.in_ok-push_notes.ensures (heard_events before) found
       (stands_before _ terms before h rule stands.trail seen.stood has.0)
-      (c.in_ok-note_refuted.ensures terms before h stands.misfits seen has.0)
+      (c.in_ok-note_refuted.ensures terms before h _ stands.misfits seen has.0)
       (subst (λ (t : Terms). AreRefusals t c.args.self.now.refusals (heard_events before))
       (sym seen.stood.by) stands.refusals)
       (subst (λ (t : Terms). AreSpellings t c.args.self.now.spellings (heard_events before))

@@ -21,7 +21,7 @@ use Rattle.lsp_explain.proofs.SaidFacts.{call_breaks}
 use Rattle.lsp_explain.proofs.notes.misfits.Misfits.note_refuted.Goals as goal
 
 pub returns : goal.returns
-returns c = on_ok_weaker c.note_call.result (λ noted terms before h are seen offends.
+returns c = on_ok_weaker c.note_call.result (λ noted terms before h found are seen offends.
     let events = heard_events before in
     let event = h.note.event in
     let kept = kept_before terms before in
@@ -39,11 +39,11 @@ returns c = on_ok_weaker c.note_call.result (λ noted terms before h are seen of
     ∙ kept-refused terms events event c.args.rule offends) seen.stood.holds in
     let least : 601 ≤ 702 = lit≤ tt in
     let breaks = call_breaks terms kept event call 702 least (offends ∙ ap Some rule_is) says in
-    let found = c.in_ok-found.ensures own holds.called
+    let finds_it = c.in_ok-found.ensures own holds.called
     (ap (λ (t : Terms). call_rule t own call) seen.stood.by ∙ breaks)
     ∙ ap (λ (t : Terms). findings_of t own call) seen.stood.by in
-    misfits_refuted terms before h c.args.self.now are _ (finds place call c.in_ok-found.found)
+    misfits_refuted terms before h c.args.self.now found are _ (finds place call c.in_ok-found.found)
     c.args.rule rule_is
     (ap (option_and_then (call_found terms (place_of events event) own)) says
     ∙ ap (λ p. finds p call (findings_of terms own call)) (sym at)
-    ∙ ap (finds place call) (sym found)) noted) c.note_call.ensures
+    ∙ ap (finds place call) (sym finds_it)) noted) c.note_call.ensures

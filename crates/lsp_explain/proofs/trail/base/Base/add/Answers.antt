@@ -14,5 +14,5 @@ returns c =
       text = refl;
       sent = pushed_view c.make_room.new.self.sent.items c.push.new.self.items _ c.args.version
           edits c.in_ok-push.ensures.items (to_z-of_z w32 c.args.version c.ranges.version)
-          c.in_ok-changes.ensures;
+          c.in_ok-write_over.ensures;
     })

@@ -1,0 +1,323 @@
+-- The steps of the account that tells the notes along the way.
+use Rattle.std.specs.Borrow.{Bor}
+use Rattle.std.specs.Prelude.{drop, length, not, option_and_then, option_map, is_some, ◌&&◌, ◌||◌}
+use Rattle.std.specs.Prelude.{if◌then◌else◌}
+use Rattle.std.specs.Prelude.{◌==◌, map}
+use Rattle.std.specs.List.{cons_option}
+use Rattle.std.specs.Option.{option_or}
+use Rattle.std.proofs.Common.{◌≡◌, ℕ, Bool, true, false, List, [], ◌∷◌, ◌++◌, Option, Some, None}
+use Rattle.std.proofs.Common.{refl, sym, ap, subst, ◌∙◌, append_assoc, append-nil}
+use Rattle.std.proofs.lemmas.List.{length-map}
+use Rattle.lsp_docs.specs.Documents.{Terms}
+use Rattle.lsp_facts.specs.Fact.{Fact, fact_lines}
+use Rattle.lsp_replay.specs.Lines.{place_of}
+use Rattle.lsp_replay.specs.Run.{Tail}
+use Rattle.lsp_replay.specs.Telling.{Closes, Goes, Says, kept_before, rule_of}
+use Rattle.lsp_replay.specs.declared.heard.EventPlace.{EventPlace}
+use Rattle.lsp_replay.specs.declared.seen.Flow.{Flow}
+use Rattle.lsp_replay.specs.declared.seen.Flow.TheVariants.{GoOn, Stop}
+use Rattle.lsp_replay.proofs.Seeing.{events-push}
+use Rattle.lsp_rpc.specs.View.{act_view}
+use Rattle.lsp_rpc.specs.declared.act.Act as code
+use Rattle.lsp_rpc.specs.declared.act.Act.TheVariants as acts
+use Rattle.lsp_session.specs.Sent.{Sent, is_shutdown}
+use Rattle.lsp_types.specs.declared.rules.TheConstants as rules
+use Rattle.lsp_verdict.specs.Event.{Event, fault, message, sent_of, snapshot}
+use Rattle.lsp_verdict.specs.Given.{verdict_view}
+use Rattle.lsp_verdict.specs.Heard.{Heard, Rests, heard_events}
+use Rattle.lsp_verdict.specs.LookBack.{each_of, first_of}
+use Rattle.lsp_verdict.specs.Offences.{said_at}
+use Rattle.lsp_verdict.specs.Verdict.{Verdict}
+use Rattle.lsp_verdict.specs.declared.completeness.Completeness.{Completeness}
+use Rattle.lsp_verdict.specs.declared.outcome.Outcome.{Outcome}
+use Rattle.lsp_verdict.specs.declared.outcome.Outcome.TheVariants.{Judged}
+use Rattle.lsp_verdict.specs.declared.verdict.Verdict as code_verdict
+use Rattle.lsp_verdict.proofs.LookBackLemmas.{each_of-snoc, first_of-snoc}
+use Rattle.lsp_replay.specs.Run.{IsJudged}
+use Rattle.lsp_explain.specs.AllNotes.{asks_shutdown, can_be_made, end_notes, found_along}
+use Rattle.lsp_explain.specs.AllNotes.{found_at, found_more, has_exited, is_shutdown_refused}
+use Rattle.lsp_explain.specs.AllNotes.{noted_run, noted_verdict, noticed_along, notes_at, one}
+use Rattle.lsp_explain.specs.AllNotes.{refused_shutdown}
+use Rattle.lsp_explain.specs.Behind.{is_on_behind}
+use Rattle.lsp_explain.specs.DocumentNotes.{DocumentNote, document_line, first_notes}
+use Rattle.lsp_explain.specs.DocumentNotes.{note_view, notes_view}
+use Rattle.lsp_explain.specs.ExplainRuns.{all_run}
+use Rattle.lsp_explain.specs.History.{last_ones}
+use Rattle.lsp_explain.specs.Misfits.{Found, event_found, found_refuted, kept_found}
+use Rattle.lsp_explain.specs.Notes.{exit_notes, name_notes, old_name_notes}
+use Rattle.lsp_explain.specs.Openings.{on_view}
+use Rattle.lsp_explain.specs.Refusals.{AreRefusals, event_request, most_requests, refusal_at}
+use Rattle.lsp_explain.specs.Refusals.{refusal_by}
+use Rattle.lsp_explain.specs.Spellings.{AreSpellings, spelling_at, spelling_by}
+use Rattle.lsp_explain.specs.declared.notes.refusals.Refusals.{Refusals}
+use Rattle.lsp_explain.specs.declared.notes.spellings.Spellings.{Spellings}
+use Rattle.lsp_explain.specs.declared.notes.document_notes.DocumentNote as code_notes
+use Rattle.lsp_explain.specs.declared.trail.openings.DocumentEvent as code_events
+use Rattle.lsp_explain.proofs.History.{refused_more}
+
+-- ---- an event that offends names nothing
+
+none_more : {A X : Type 0} (f : List A → A → Option X) (xs : List A) (x : A) → f xs x ≡ None
+    → each_of f (xs ++ x ∷ []) ≡ each_of f xs
+none_more f xs x none =
+    each_of-snoc f xs x ∙ ap (λ (o : Option _). each_of f xs ++ cons_option o []) none
+    ∙ append-nil (each_of f xs)
+
+module _ (terms : Terms) (before : List Heard) (h : Heard) (rule : ℕ)
+    (offends : rule_of terms before h ≡ Some rule) where
+  abbrev events : List Event
+  events = heard_events before
+
+  abbrev e : Event
+  e = h.note.event
+
+  pub refusals_past : (r : Refusals) → AreRefusals terms r events
+      → AreRefusals terms r (heard_events (before ++ h ∷ []))
+  refusals_past r are =
+      subst (AreRefusals terms r) (sym (events-push before h)) (record {
+        asked_are = are.asked_are ∙ ap (last_ones most_requests)
+            (sym (refused_more event_request terms events e rule offends));
+        refused_are = are.refused_are ∙ ap first_notes
+            (sym (none_more (refusal_at terms) events e
+            (ap (λ (o : Option ℕ). if is_some o then None
+            else option_and_then (refusal_by terms events (place_of events e)) (sent_of e))
+            offends)));
+      })
+
+  pub spellings_past : (s : Spellings) → AreSpellings terms s events
+      → AreSpellings terms s (heard_events (before ++ h ∷ []))
+  spellings_past s are =
+      subst (AreSpellings terms s) (sym (events-push before h)) (record {
+        named_are = are.named_are ∙ ap first_notes
+            (sym (none_more (spelling_at terms) events e
+            (ap (λ (o : Option ℕ). if is_some o then None
+            else option_and_then (spelling_by terms events (place_of events e)) (sent_of e))
+            offends)));
+      })
+
+-- ---- what changes find
+
+pub found_along-push : (terms : Terms) (before : List Heard) (h : Heard)
+    → found_along terms (before ++ h ∷ []) ≡ found_along terms before ++ found_more terms before h
+found_along-push terms before h = each_of-snoc (found_at terms) before h
+
+if_cons : (b : Bool) (o : Option Found)
+    → (if b then cons_option o [] else []) ≡ cons_option (if b then o else None) []
+if_cons true o = refl
+if_cons false o = refl
+
+module _ (terms : Terms) (before : List Heard) (h : Heard) where
+  -- what it finds, where its document is behind or not, and it breaks this rule or is kept
+  abbrev finds_by : Bool → Option ℕ → List Found
+  finds_by behind rule =
+      cons_option (if behind then None
+      else if can_be_made rule
+      then event_found terms (place_of (heard_events before) h.note.event)
+      (kept_before terms before) h.note.event
+      else None) []
+
+  abbrev here : Option ℕ
+  here = rule_of terms before h
+
+  -- nothing where the document is behind
+  pub behind_finds_none : is_on_behind terms before
+      (said_at terms (heard_events before) h.note.event) ≡ true → found_more terms before h ≡ []
+  behind_finds_none is = ap (λ (b : Bool). finds_by b here) is
+
+  module _ (there : is_on_behind terms before
+      (said_at terms (heard_events before) h.note.event) ≡ false) where
+    -- of one that is kept
+    pub kept_is : rule_of terms before h ≡ None
+        → kept_found terms (heard_events before) h.note.event ≡ found_more terms before h
+    kept_is kept =
+        ap (λ (o : Option ℕ). cons_option (if is_some o then None
+        else event_found terms (place_of (heard_events before) h.note.event)
+        (kept_before terms before) h.note.event) []) kept
+        ∙ sym (ap (λ (b : Bool). finds_by b here) there ∙ ap (finds_by false) kept)
+
+    -- of one that offends
+    pub refuted_is : (rule : ℕ) → rule_of terms before h ≡ Some rule
+        → found_refuted terms (heard_events before) h.note.event rule
+        ≡ found_more terms before h
+    refuted_is rule offends =
+        if_cons (rule == rules.SNAPSHOT_DIFFERS)
+        (event_found terms (place_of (heard_events before) h.note.event)
+        (kept_before terms before) h.note.event)
+        ∙ sym (ap (λ (b : Bool). finds_by b here) there ∙ ap (finds_by false) offends)
+
+-- ---- a `shutdown` that is skipped
+
+either : (a b : Option ℕ) → is_some (option_or a b) ≡ (is_some a || is_some b)
+either None b = refl
+either (Some x) b = refl
+
+pub refused-push : (terms : Terms) (before : List Heard) (h : Heard)
+    → is_shutdown_refused terms (before ++ h ∷ [])
+    ≡ (is_shutdown_refused terms before || is_some (refused_shutdown terms before h))
+refused-push terms before h =
+    ap is_some (first_of-snoc (refused_shutdown terms) before h)
+    ∙ either (first_of (refused_shutdown terms) before) (refused_shutdown terms before h)
+
+-- by what it asks for, and whether the session has exited
+abbrev refused_by : Bool → Option ℕ → Option ℕ
+refused_by so rule = if so then rule else None
+
+if_none : (so : Bool) → is_some (refused_by so None) ≡ false
+if_none true = refl
+if_none false = refl
+
+if_some : (so : Bool) (rule : ℕ) → is_some (refused_by so (Some rule)) ≡ so
+if_some true rule = refl
+if_some false rule = refl
+
+pub kept_refuses : (terms : Terms) (before : List Heard) (h : Heard)
+    → rule_of terms before h ≡ None → false ≡ is_some (refused_shutdown terms before h)
+kept_refuses terms before h kept =
+    let so = asks_shutdown h.note.event && not (has_exited terms before) in
+    sym (ap (λ (o : Option ℕ). is_some (refused_by so o)) kept ∙ if_none so)
+
+pub offends_refuses : (terms : Terms) (before : List Heard) (h : Heard) (rule : ℕ)
+    (asks exited : Bool) → rule_of terms before h ≡ Some rule
+    → asks ≡ asks_shutdown h.note.event → exited ≡ has_exited terms before
+    → (asks && not exited) ≡ is_some (refused_shutdown terms before h)
+offends_refuses terms before h rule asks exited offends asked left =
+    let so = asks_shutdown h.note.event && not (has_exited terms before) in
+    (λ i. asked i && not (left i))
+    ∙ sym (ap (λ (o : Option ℕ). is_some (refused_by so o)) offends ∙ if_some so rule)
+
+-- what is no message asks for nothing
+pub asks_none : (event : Event) → ((sent : Sent) → event ≡ message sent → ⊥)
+    → false ≡ asks_shutdown event
+asks_none (message m) not = absurd (not m refl)
+asks_none (fault side rule) not = refl
+asks_none (snapshot uri number text) not = refl
+
+-- of no other message
+pub no_shutdown : (a : code.Act) → (a ≡ acts.Shutdown → ⊥) → false ≡ is_shutdown (act_view a)
+no_shutdown (acts.Initialize o) not = refl
+no_shutdown acts.Initialized not = refl
+no_shutdown acts.Shutdown not = absurd (not refl)
+no_shutdown acts.Exit not = refl
+no_shutdown (acts.DidOpen uri version text) not = refl
+no_shutdown (acts.DidChange uri version changes) not = refl
+no_shutdown (acts.DidClose uri) not = refl
+no_shutdown (acts.DidSave uri text) not = refl
+no_shutdown (acts.Cancel id) not = refl
+no_shutdown (acts.Progress token) not = refl
+no_shutdown acts.Early not = refl
+no_shutdown (acts.Register methods) not = refl
+no_shutdown acts.Other not = refl
+
+-- ---- notes beyond so many
+
+-- one that was told or not
+pub exit_told : (told : Bool) (o : Option EventPlace)
+    → exit_notes (if told then None else o) ≡ drop (one told) (exit_notes o)
+exit_told true None = refl
+exit_told true (Some p) = refl
+exit_told false o = refl
+
+pub name_told : (told : Bool) (o : Option (Bor (List ℕ)))
+    → name_notes (option_map (λ s. s.now) (if told then None else o))
+    ≡ drop (one told) (name_notes (option_map (λ s. s.now) o))
+name_told true None = refl
+name_told true (Some s) = refl
+name_told false o = refl
+
+pub renamed_told : (told : Bool) (o : Option (Bor code_events.DocumentEvent))
+    → old_name_notes (option_map (λ r. on_view r.now) (if told then None else o))
+    ≡ drop (one told) (old_name_notes (option_map (λ r. on_view r.now) o))
+renamed_told true None = refl
+renamed_told true (Some r) = refl
+renamed_told false o = refl
+
+-- whether there is one says how many there are
+pub exit_there : (o : Option EventPlace) → one (is_some o) ≡ length (exit_notes o)
+exit_there None = refl
+exit_there (Some p) = refl
+
+pub name_there : (o : Option (Bor (List ℕ)))
+    → one (is_some o) ≡ length (name_notes (option_map (λ s. s.now) o))
+name_there None = refl
+name_there (Some s) = refl
+
+pub renamed_there : (o : Option (Bor code_events.DocumentEvent))
+    → one (is_some o) ≡ length (old_name_notes (option_map (λ r. on_view r.now) o))
+renamed_there None = refl
+renamed_there (Some r) = refl
+
+-- how many notes are held of documents
+pub noted_length : (items : List code_notes.DocumentNote) (notes : List DocumentNote)
+    → notes_view items ≡ notes → length items ≡ length (map document_line notes)
+noted_length items notes are =
+    sym (length-map items note_view) ∙ ap length are ∙ sym (length-map notes document_line)
+
+-- of eight kinds
+pub eight : (old a b c d e f g h : List Fact)
+    → (((((((old ++ a) ++ b) ++ c) ++ d) ++ e) ++ f) ++ g) ++ h
+    ≡ old ++ (a ++ (b ++ (c ++ (d ++ (e ++ (f ++ (g ++ (h ++ []))))))))
+eight old a b c d e f g h =
+    append_assoc ((((((old ++ a) ++ b) ++ c) ++ d) ++ e) ++ f) g h
+    ∙ append_assoc (((((old ++ a) ++ b) ++ c) ++ d) ++ e) f (g ++ h)
+    ∙ append_assoc ((((old ++ a) ++ b) ++ c) ++ d) e (f ++ (g ++ h))
+    ∙ append_assoc (((old ++ a) ++ b) ++ c) d (e ++ (f ++ (g ++ h)))
+    ∙ append_assoc ((old ++ a) ++ b) c (d ++ (e ++ (f ++ (g ++ h))))
+    ∙ append_assoc (old ++ a) b (c ++ (d ++ (e ++ (f ++ (g ++ h)))))
+    ∙ append_assoc old a (b ++ (c ++ (d ++ (e ++ (f ++ (g ++ h))))))
+    ∙ ap (λ w. old ++ (a ++ (b ++ (c ++ (d ++ (e ++ (f ++ (g ++ w)))))))) (sym (append-nil h))
+
+-- ---- the account
+
+module _ (completeness : Completeness) (terms : Terms) (before : List Heard) (h : Heard) where
+  -- it stops at no event
+  pub went_on : (Stands : Type 0) (flow : Flow)
+      → Goes (all_run completeness) terms before h Stands flow → Stands
+  went_on Stands GoOn goes = goes.1
+  went_on Stands (Stop boxed) goes = absurd (cc goes.0)
+
+  -- **an event**: what `explain --all` says, and the notes
+  pub noted_says : (Fits : Rests → Type 0) (Stands Next : Type 0) (flow : Flow)
+      (old mid new : List ℕ)
+      → Says (all_run completeness) terms before h Fits old mid Stands flow
+      → new ≡ mid ++ fact_lines (notes_at terms before h) → (Stands → Next)
+      → Says (noted_run completeness) terms before h Fits old new Next flow
+  noted_says Fits Stands Next flow old mid new s more next =
+      let notes = fact_lines (notes_at terms before h) in
+      record {
+        said = s.said ++ notes;
+        added = more ∙ ap (λ w. w ++ notes) s.added ∙ append_assoc old s.said notes;
+        is = λ rests fits. (s.said, s.is rests fits, refl);
+        goes = by_flow flow s.goes;
+      }
+    where
+      by_flow : (flow : Flow) → Goes (all_run completeness) terms before h Stands flow
+          → Goes (noted_run completeness) terms before h Next flow
+      by_flow GoOn goes = (refl, next goes.1)
+      by_flow (Stop boxed) goes = absurd (cc goes.0)
+
+-- the verdict is the one given
+pub verdict_given : (given : code_verdict.Verdict) (v : Verdict) → IsJudged v (Judged given)
+    → verdict_view given ≡ v
+verdict_given given v (own, is, view) =
+    let same : given ≡ own = cc is in ap verdict_view same ∙ view
+
+-- **the end**
+pub noted_closes : (completeness : Completeness) (terms : Terms) (heard : List Heard)
+    (Fits : Tail → Type 0) (given : code_verdict.Verdict) (old mid new : List ℕ)
+    → Closes (all_run completeness) terms heard Fits old mid (Judged given)
+    → new ≡ mid ++ end_notes (verdict_view given) (noticed_along terms heard)
+    → Closes (noted_run completeness) terms heard Fits old new (Judged given)
+noted_closes completeness terms heard Fits given old mid new s more =
+    let n = noticed_along terms heard in
+    let notes = end_notes (verdict_view given) n in
+    record {
+      said = s.said ++ notes;
+      added = more ∙ ap (λ w. w ++ notes) s.added ∙ append_assoc old s.said notes;
+      is = λ tail fits. (
+        s.said,
+        s.is tail fits,
+        ap (λ (v : Verdict). s.said ++ end_notes v n)
+            (verdict_given given (noted_verdict completeness terms heard tail)
+            (s.is tail fits).1),
+      );
+    }

@@ -1,0 +1,42 @@
+use Rattle.std.specs.Prelude.{map, option_map}
+use Rattle.std.proofs.Common.{◌++◌, ap, ◌∙◌}
+use Rattle.lsp_explain.specs.SessionNotes.{misused_views}
+use Rattle.lsp_explain.specs.Openings.{names_view, on_view}
+use Rattle.lsp_verdict.specs.Given.{verdict_view}
+use Rattle.lsp_explain.specs.DocumentNotes.{document_line, notes_view}
+use Rattle.lsp_explain.specs.Misfits.{misfit_notes}
+use Rattle.lsp_explain.specs.Notes.{exit_notes, misuse_line, name_notes, old_name_notes}
+use Rattle.lsp_explain.specs.Notes.{uncompared}
+use Rattle.lsp_explain.specs.Trails.{terms_in}
+use Rattle.lsp_explain.proofs.notes.notes_of.Goals as goal
+
+pub returns : goal.returns
+returns c = λ before found stands are refused spelled.
+    let terms = terms_in c.args.past in
+    let noted = stands.trail.said in
+    let name = c.name_in.ensures before stands in
+    let calls = ap misused_views c.as_slice.ensures.value ∙ noted.notes_are.misuses_are in
+    let renamed = c.renamed.ensures ∙ noted.renames_are.renamed_is in
+    let unshown = ap names_view c.as_slice-2.ensures.value
+    ∙ c.in_ok-unshown.ensures terms before stands.trail.opened in
+    let pushed = c.in_ok-push-3.ensures
+    ∙ ap (λ l. l ++ map document_line (notes_view c.args.spellings.now.named.items))
+    (c.in_ok-push-2.ensures
+    ∙ ap (λ l. l ++ map document_line (notes_view c.args.refusals.now.refused.items))
+    (c.in_ok-push.ensures found are
+    ∙ ap (λ l. l ++ misfit_notes found) (c.in_ok-push_uncompared.ensures
+    ∙ ap (λ l. l ++ uncompared (verdict_view c.args.verdict.now) (names_view
+    c.as_slice-2.result.now)) (c.in_ok-push_renamed.ensures
+    ∙ ap (λ l. l ++ old_name_notes (option_map (λ r. on_view r.now) c.renamed.result))
+    (c.in_ok-push_name.ensures
+    ∙ ap (λ l. l ++ name_notes (option_map (λ s. s.now) c.name_in.result))
+    (c.in_ok-push_earlier.ensures
+    ∙ ap (λ l. l ++ exit_notes c.args.exit)
+    (c.in_ok-push_misuses.ensures
+    ∙ ap (λ l. l ++ map misuse_line (misused_views c.as_slice.result.now))
+    c.new-notes.ensures))))))) in
+    pushed
+    ∙ (λ i. map misuse_line (calls i) ++ exit_notes c.args.exit ++ name_notes (name i)
+    ++ old_name_notes (renamed i)
+    ++ uncompared (verdict_view c.args.verdict.now) (unshown i) ++ misfit_notes found
+    ++ map document_line (refused.refused_are i) ++ map document_line (spelled.named_are i))

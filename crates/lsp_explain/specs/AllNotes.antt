@@ -1,0 +1,200 @@
+-- What `explain --all --notes` says: of each event the notes that are found at it.
+use Rattle.std.specs.Prelude.{◌≡◌, ℕ, List, [], ◌∷◌, ◌++◌, drop, length, map, Bool, true, false}
+use Rattle.std.specs.Prelude.{◌==◌, ◌&&◌, not, is_some, if◌then◌else◌, Option, Some, None, Result}
+use Rattle.std.specs.List.{cons_option}
+use Rattle.lsp_docs.specs.Documents.{Terms}
+use Rattle.lsp_facts.specs.Fact.{Fact, fact_lines}
+use Rattle.lsp_frame.specs.Bounds.{Bounds}
+use Rattle.lsp_session.specs.Handshake.{phase}
+use Rattle.lsp_session.specs.Sent.{is_shutdown}
+use Rattle.lsp_session.specs.declared.phase.Phase.TheVariants.{Exited}
+use Rattle.lsp_replay.specs.Lines.{place_of}
+use Rattle.lsp_replay.specs.Run.{IsPassed, Passes, Run, Tail}
+use Rattle.lsp_replay.specs.Telling.{kept_before, rule_of}
+use Rattle.lsp_replay.specs.declared.heard.EventPlace.{EventPlace}
+use Rattle.lsp_survey.specs.SessionEnds.{all_verdict, ends_of}
+use Rattle.lsp_types.specs.declared.rules.TheConstants as rules
+use Rattle.lsp_verdict.specs.Event.{Event, fault, message, sent_in, snapshot}
+use Rattle.lsp_verdict.specs.Heard.{Heard, heard_events}
+use Rattle.lsp_verdict.specs.LookBack.{each_of, first_of}
+use Rattle.lsp_verdict.specs.Offences.{said_at}
+use Rattle.lsp_verdict.specs.Runs.{Ports}
+use Rattle.lsp_verdict.specs.Verdict.{Verdict}
+use Rattle.lsp_verdict.specs.declared.completeness.Completeness.{Completeness}
+use Rattle.lsp_verdict.specs.declared.outcome.Outcome.{Outcome}
+use Rattle.lsp_verdict.specs.declared.outcome.RunFault.{RunFault}
+use Rattle.lsp_explain.specs.Asking.{numbered, same_phase}
+use Rattle.lsp_explain.specs.Behind.{AreBehind, is_on_behind}
+use Rattle.lsp_explain.specs.DocumentNotes.{document_line}
+use Rattle.lsp_explain.specs.ExplainRuns.{AllStands, all_run}
+use Rattle.lsp_explain.specs.Misfits.{AreMisfits, Found, event_found, past_ends, range_lengths}
+use Rattle.lsp_explain.specs.Notes.{Noticed, count_line, exit_notes, misuse_line, name_notes}
+use Rattle.lsp_explain.specs.Notes.{name_of, noticed, notes_by, old_name_notes, uncompared}
+use Rattle.lsp_explain.specs.Notes.{with_exit}
+use Rattle.lsp_explain.specs.Refusals.{AreRefusals}
+use Rattle.lsp_explain.specs.Renames.{renamed}
+use Rattle.lsp_explain.specs.SessionNotes.{abrupt_exit, misuses}
+use Rattle.lsp_explain.specs.Spellings.{AreSpellings}
+use Rattle.lsp_explain.specs.declared.notes.along.NoteCounts.{NoteCounts}
+use Rattle.lsp_explain.specs.declared.notes.along.NotesAlong.{NotesAlong}
+use Rattle.lsp_explain.specs.declared.run_noted.NotedCauses.{NotedCauses}
+
+-- ---- what changes find
+
+-- the changes of an event that breaks this rule, or is kept, can be made
+abbrev pub can_be_made : Option ℕ → Bool
+can_be_made None = true
+can_be_made (Some rule) = rule == rules.SNAPSHOT_DIFFERS
+
+-- what those of an event find after these, where its document is not behind
+abbrev pub found_at : Terms → List Heard → Heard → Option Found
+found_at terms before h =
+    if is_on_behind terms before (said_at terms (heard_events before) h.note.event) then None
+    else if can_be_made (rule_of terms before h)
+    then event_found terms (place_of (heard_events before) h.note.event)
+    (kept_before terms before) h.note.event
+    else None
+
+abbrev pub found_more : Terms → List Heard → Heard → List Found
+found_more terms before h = cons_option (found_at terms before h) []
+
+-- **what all changes find**
+abbrev pub found_along : Terms → List Heard → List Found
+found_along terms heard = each_of (found_at terms) heard
+
+-- ---- `exit`
+
+-- the session has exited
+abbrev pub has_exited : Terms → List Heard → Bool
+has_exited terms before = same_phase (phase (sent_in (kept_before terms before))) Exited
+
+-- the event asks for the shutdown
+abbrev pub asks_shutdown : Event → Bool
+asks_shutdown (message m) = is_shutdown m.act
+asks_shutdown (fault side rule) = false
+asks_shutdown (snapshot uri number text) = false
+
+-- the rule that is broken by a `shutdown` before the exit
+abbrev pub refused_shutdown : Terms → List Heard → Heard → Option ℕ
+refused_shutdown terms before h =
+    if asks_shutdown h.note.event && not (has_exited terms before) then rule_of terms before h
+    else None
+
+-- the editor sent a `shutdown` before its `exit`, though it was skipped
+abbrev pub is_shutdown_refused : Terms → List Heard → Bool
+is_shutdown_refused terms heard = is_some (first_of (refused_shutdown terms) heard)
+
+-- **the `exit` without a `shutdown` before it**, also none that was skipped
+abbrev pub exit_along : Terms → List Heard → Option EventPlace
+exit_along terms heard =
+    if is_shutdown_refused terms heard then None
+    else abrupt_exit (numbered terms (heard_events heard))
+
+-- ---- what the notes on all these events are on
+
+abbrev pub noticed_along : Terms → List Heard → Noticed
+noticed_along terms heard =
+    with_exit (exit_along terms heard)
+    (noticed terms (heard_events heard) (found_along terms heard))
+
+-- ---- the notes of an event
+
+-- the notes that belong to events, of each kind all
+abbrev pub kinds : Noticed → List (List Fact)
+kinds n =
+    map misuse_line (misuses n.said)
+    ∷ exit_notes n.exit
+    ∷ name_notes (name_of n.said)
+    ∷ old_name_notes (renamed n.said)
+    ∷ map document_line (past_ends n.found)
+    ∷ map document_line (range_lengths n.found)
+    ∷ map document_line n.refused
+    ∷ map document_line n.spelled
+    ∷ []
+
+abbrev pub counts : List (List Fact) → List ℕ
+counts lists = map (λ (notes : List Fact). length notes) lists
+
+-- of each kind the notes beyond so many
+abbrev pub beyond : List ℕ → List (List Fact) → List Fact
+beyond [] lists = []
+beyond (n ∷ ns) [] = []
+beyond (n ∷ ns) (notes ∷ lists) = drop n notes ++ beyond ns lists
+
+-- **the notes that are found at an event**: of each kind those beyond as many as there were
+abbrev pub notes_at : Terms → List Heard → Heard → List Fact
+notes_at terms before h =
+    beyond (counts (kinds (noticed_along terms before)))
+    (kinds (noticed_along terms (before ++ h ∷ [])))
+
+-- ---- the end
+
+-- those that only the end knows, where this is the verdict, and how many notes there are
+abbrev pub end_notes : Verdict → Noticed → List ℕ
+end_notes v n = fact_lines (uncompared v n.unshown) ++ count_line (length (notes_by v n))
+
+-- ---- the run
+
+-- this is said of an event, or of the end: what `explain --all` says of it, and these lines
+abbrev pub SaysMore : (List ℕ → Type 0) → List ℕ → List ℕ → Type 0
+SaysMore Says more out = (said : List ℕ) × Says said × (out ≡ said ++ more)
+
+-- the verdict where a log ends so
+abbrev pub noted_verdict : Completeness → Terms → List Heard → Tail → Verdict
+noted_verdict completeness terms heard tail =
+    all_verdict terms heard tail.fault (ends_of completeness terms heard tail)
+
+-- **the run `explain --all --notes`**
+abbrev pub noted_run : Completeness → Run
+noted_run completeness = record {
+  says = λ terms rests before h out.
+      SaysMore (λ said. (all_run completeness).says terms rests before h said)
+      (fact_lines (notes_at terms before h)) out;
+  wants = λ terms before h. true;
+  stops = λ terms before h. false;
+  ends = λ terms before h outcome. ⊥;
+  closes = λ terms heard tail out outcome.
+      SaysMore (λ said. (all_run completeness).closes terms heard tail said outcome)
+      (end_notes (noted_verdict completeness terms heard tail) (noticed_along terms heard)) out;
+}
+
+-- **what `explain --all --notes` answers and writes**
+abbrev pub ExplainsNoted : Completeness → Bounds → Ports → Result Outcome RunFault → Type 0
+ExplainsNoted completeness limits io result =
+    Passes (noted_run completeness) limits io.source_before io.source_after io.sink_before
+    io.sink_after result
+
+-- ---- laws
+
+-- **Without its notes, it is what `explain --all` writes of the log**, which ends so too.
+abbrev pub NotesAreBeside : Type 0
+NotesAreBeside =
+    (completeness : Completeness) (limits : Bounds) (log out : List ℕ) (outcome : Outcome)
+    → IsPassed (noted_run completeness) limits log out outcome
+    → (plain : List ℕ) × IsPassed (all_run completeness) limits log plain outcome
+
+-- ---- as they are held
+
+-- one note, or none
+abbrev pub one : Bool → ℕ
+one true = 1
+one false = 0
+
+abbrev pub told_view : NoteCounts → List ℕ
+told_view t =
+    t.misuses ∷ one t.exit ∷ one t.name ∷ one t.renamed ∷ t.past_ends ∷ t.range_lengths
+    ∷ t.refused ∷ t.spelled ∷ []
+
+-- **it is what these events leave of it**, where the notes on those were told
+pub record AreAlong (terms : Terms) (n : NotesAlong) (told heard : List Heard) : Type 0 where
+  pub misfits : AreMisfits n.misfits (found_along terms heard)
+  pub refusals : AreRefusals terms n.refusals (heard_events heard)
+  pub spellings : AreSpellings terms n.spellings (heard_events heard)
+  pub behind : AreBehind terms n.behind heard
+  pub refused : n.shutdown_refused ≡ is_shutdown_refused terms heard
+  pub told_are : told_view n.told ≡ counts (kinds (noticed_along terms told))
+
+-- **the account of `explain --all --notes` stands for these events**
+pub record NotedStands (a : NotedCauses) (terms : Terms) (heard : List Heard) : Type 0 where
+  pub causes : AllStands a.causes terms heard
+  pub notes : AreAlong terms a.notes heard heard
