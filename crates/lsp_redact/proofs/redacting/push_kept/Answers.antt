@@ -30,12 +30,12 @@ returns-in_ok-push_snapshot-in-Snapshot c =
           (cc (
             c.in_ok-push_snapshot-in-Snapshot.ensures,
             c.in_ok-body.ensures,
-            c.as_str.ensures.value,
-            c.as_str-2.ensures.value,
-            c.as_str-3.ensures.value,
-            c.as_str-4.ensures.value,
+            c.as_str-in-Snapshot.ensures.value,
+            c.as_str-in-Snapshot-2.ensures.value,
+            c.as_str-in-Snapshot-3.ensures.value,
+            c.as_str-in-Snapshot-4.ensures.value,
             to_z-of_z w32 c.in-Snapshot.version fits,
             append-nil (spelling (shown c.in-Snapshot.version (string_bytes c.in_ok-name.name) own)),
           ))
-          (rw c.as_str.ensures.value at c.in_ok-name.ensures);
+          (rw c.as_str-in-Snapshot.ensures.value at c.in_ok-name.ensures);
     }
