@@ -2,11 +2,15 @@
 
 import base64
 import json
+import threading
 import zlib
+from queue import SimpleQueue
 
 # The contents of events are in blocks of this many characters, and each is read when it is needed.
 BLOCK = 1_000_000
 LEVEL = 6
+# How many blocks may wait to be compressed or written.
+MOST_WAITING = 3
 
 
 def compressed(pieces):
@@ -20,9 +24,9 @@ def compressed(pieces):
     yield base64.b64encode(rest + packer.flush())
 
 
-def write_block(file, name, pieces):
+def write_block(file, name, packed):
     file.write(b'<script type="application/octet-stream" id="%b">' % name.encode())
-    for piece in compressed(pieces):
+    for piece in packed:
         file.write(piece)
     file.write(b"</script>\n")
 
@@ -34,26 +38,50 @@ def json_of(value):
     return encode(value).encode()
 
 
+class Packer(threading.Thread):
+    """Compresses blocks while others are made."""
+
+    def __init__(self):
+        super().__init__(daemon=True)
+        self.given, self.packed = SimpleQueue(), SimpleQueue()
+        self.start()
+
+    def run(self):
+        while True:
+            self.packed.put(b"".join(compressed([self.given.get()])))
+
+
 class Contents:
     """Writes the contents of events into a page, in blocks of about the same size."""
 
     def __init__(self, file):
         self.file, self.block, self.size = file, [], 0
-        # How many contents each block has.
-        self.counts = []
+        # How many contents each block has, and how many blocks are written.
+        self.counts, self.written = [], 0
+        self.packer = Packer()
 
     def put(self, content):
-        self.block.append(json_of(content))
-        self.size += len(self.block[-1])
+        self.block.append(content)
+        self.size += len(content or "")
         if self.size >= BLOCK:
             self.end_block()
 
     def end_block(self):
         if self.block:
-            pieces = (b"[", b",".join(self.block), b"]")
-            write_block(self.file, f"contents-{len(self.counts)}", pieces)
+            self.packer.given.put(json_of(self.block))
             self.counts.append(len(self.block))
             self.block, self.size = [], 0
+            self.write(len(self.counts) - MOST_WAITING)
+
+    def write(self, most):
+        """Writes blocks until there are this many."""
+        while self.written < most:
+            write_block(self.file, f"contents-{self.written}", [self.packer.packed.get()])
+            self.written += 1
+
+    def end(self):
+        self.end_block()
+        self.write(len(self.counts))
 
 
 def index_pieces(index, rows, violations):

@@ -5,7 +5,7 @@ import bisect
 import re
 
 from listing import EDITOR, SNAPSHOT, Listing
-from session import key_of, read_session
+from session import key_of
 
 MOST_EVENTS, MOST_BYTES = 20_000, 50_000_000
 # The first events of a session, which agree on the encoding and open documents, are always shown.
@@ -19,7 +19,6 @@ SAID_SMALL = ("the first violation, the events that explain it, and the handshak
 # In a small page, how many lines around what differs remain of both texts.
 LINES_AROUND = 3
 
-EVENT = re.compile(r"\bevent (\d+)")
 LINE = re.compile(r"[^\r\n]*(?:\r\n|\r|\n)|[^\r\n]+$")
 TEXTS = ("textDocument/didOpen", "textDocument/didSave")
 CHANGE = "textDocument/didChange"
@@ -59,7 +58,8 @@ def size_of(spans):
 
 def events_of(violations):
     """The events that the explanations of violations name."""
-    return {int(it) for one in violations for line in one.lines for it in EVENT.findall(line)}
+    facts = [it for one in violations for it in one.facts]
+    return {it["event"] for it in facts if "event" in it and it["is"] != "end"}
 
 
 class Spans:
@@ -94,10 +94,10 @@ class Spans:
 class Around(Spans):
     """The choice for a long log: the events around its violations, as many as the page may hold."""
 
-    def __init__(self, outline, size, most_events, most_bytes):
-        events = outline.events
+    def __init__(self, listing, size, most_events, most_bytes):
+        events = listing.events
         most = max(min(most_events, most_bytes * events // max(size, 1)), 4)
-        explained = outline.violations[: most // 4]
+        explained = listing.violations[: most // 4]
         centres = [min(it.event, events) for it in explained] or [1, events]
         self.single = set(sorted(events_of(explained))[: most // 4]) | set(centres)
         low, high = 0, events
@@ -126,11 +126,11 @@ class Small(Spans):
     """The choice for a page that gives away little: the first violation, the events that its
     explanation names, and the two of the handshake. Of these it has no whole text of a document."""
 
-    def __init__(self, outline, handshake):
-        first = outline.violations[:1]
+    def __init__(self, listing, handshake):
+        first = listing.violations[:1]
         self.named = events_of(first) | {it.event for it in first}
-        chosen = [it for it in self.named | handshake if 1 <= it <= outline.events]
-        super().__init__(union((it, it) for it in chosen), outline.events)
+        chosen = [it for it in self.named | handshake if 1 <= it <= listing.events]
+        super().__init__(union((it, it) for it in chosen), listing.events)
 
     def is_whole(self, event, content):
         has_text = event.side == SNAPSHOT or event.method in TEXTS
@@ -141,11 +141,11 @@ class Small(Spans):
         return is_whole
 
 
-def handshake_of(lines):
+def handshake_of(listing):
     """The events of the first `initialize` and of its answer."""
     asked = None
-    for event, violation in Listing(lines):
-        if event is None or violation:
+    for event in listing:
+        if event.rule:
             continue
         if asked is None and event.method == "initialize" and event.kind == "request":
             asked = event
@@ -187,38 +187,40 @@ def checkpoints_of(runs, choice, session, first_violation):
     ]
 
 
-def said_about(choice, outline, shown):
+def said_about(choice, events, shown):
     """What the page says about what it leaves out."""
     which = "those " + choice.where if isinstance(choice, Around) else SAID_SMALL
-    said = [f"The log has {outline.events:,} events. This page shows {shown:,}: {which}."]
+    said = [f"The log has {events:,} events. This page shows {shown:,}: {which}."]
     if choice.unwhole:
         said.append(f"It leaves out {choice.unwhole:,} contents.")
     return said
 
 
-def choice_of(outline, size, given, shown):
+def is_short(runs, listed, given):
+    """Whether the page surely shows a whole log: lspcheck writes at least a line for each event."""
+    is_small = runs.log.size <= given.most_bytes and listed.count() <= given.most_events
+    return is_small and not given.small
+
+
+def choice_of(runs, listed, listing, given):
     """Which events are shown, as the command line says."""
     if given.small:
-        return Small(outline, handshake_of(shown.lines()))
-    if outline.events <= given.most_events and size <= given.most_bytes:
+        return Small(listing, handshake_of(Listing(listed.objects())))
+    if listing.events <= given.most_events and runs.log.size <= given.most_bytes:
         return Everything()
-    return Around(outline, size, given.most_events, given.most_bytes)
+    return Around(listing, runs.log.size, given.most_events, given.most_bytes)
 
 
-def session_of(runs, shown, outline, given, put):
-    """The session that the page shows, the format of the log, and what is left out, if anything."""
-    log = runs.log
-    choice = choice_of(outline, log.size, given, shown)
-    session, log_format = read_session(log, shown.lines(), choice, put, runs.progress)
+def left_out(runs, listing, choice, session, given):
+    """What is left out, if anything."""
     if isinstance(choice, Everything):
-        return session, log_format, None
-    first = outline.violations[0].event if outline.violations else 0
-    left = {
+        return None
+    first = listing.violations[0].event if listing.violations else 0
+    return {
         "gaps": choice.gaps(),
         "checkpoints": [] if given.small else checkpoints_of(runs, choice, session, first),
-        "said": said_about(choice, outline, len(session.rows)),
+        "said": said_about(choice, listing.events, len(session.rows)),
     }
-    return session, log_format, left
 
 
 def around_difference(texts):

@@ -9,9 +9,10 @@ import blocks
 import cuts
 import rules
 from files import MARK
-from listing import KINDS, explained
+from listing import KINDS, Listing, explained
 from program import Failed
-from session import MOST_EXPLAINED, outline_of
+from report_lines import Report
+from session import MOST_EXPLAINED, read_session
 
 HERE = Path(__file__).resolve().parent
 # In the order in which they are run. Each defines functions for those after it.
@@ -42,9 +43,9 @@ MOST_OF_EXIT = 2_000
 LISTED_ALWAYS = 10_000
 
 
-def texts_of(runs, report):
+def texts_of(runs, verdict):
     """Both texts of the verdict, if it is that two texts differ."""
-    if report[0].split()[:2] not in (["no", "608"], ["no", "702"]):
+    if verdict.get("rule") not in (608, 702):
         return None
     options = {"messages": "--by-messages", "editor": "--in-editor"}
     started = {name: runs.start("explain", option) for name, option in options.items()}
@@ -60,19 +61,23 @@ def exit_of(log):
         return []
 
 
-def explain(outline, all_explained):
-    """Adds the lines of `explain --all` to the violations that it explains."""
-    found, _ = explained(all_explained.lines(), MOST_EXPLAINED)
-    lines = {(it.rule, it.event, it.who): it.lines for it in found}
-    for violation in outline.violations:
-        violation.lines = lines.get((violation.rule, violation.event, violation.who), [])
+def complete(listing, said, all_explained, report):
+    """Adds what `explain --all` says to the violations that it explains, after all were listed."""
+    if not listing.ending:
+        raise Failed("lspcheck show: what it wrote has no end")
+    if said[0]["is"] != "no":
+        return
+    found = explained(all_explained.objects(), MOST_EXPLAINED)
+    for violation in listing.violations:
+        objects = found.get((violation.rule, violation.event, violation.who), [])
+        violation.facts, violation.lines = objects[1:], report.lines(objects)
 
 
-def only_first(outline, report):
+def only_first(listing, said):
     """Leaves out all violations but the first, and the notes on what is elsewhere in the log."""
-    outline.unlisted += len(outline.violations[1:])
-    del outline.violations[1:]
-    report[:] = [line for line in report if not line.startswith(("note ", "notes "))]
+    listing.unlisted += len(listing.violations[1:])
+    del listing.violations[1:]
+    said[:] = [it for it in said if it["is"] not in ("note", "notes")]
 
 
 def hash_of(text):
@@ -125,56 +130,84 @@ class Document:
             self.file.write(parts[part].encode())
 
 
-def write_page(file, runs, given):
-    """Writes the page of a log into a file."""
-    version, log = runs.program.version(), runs.log
-    # All at once: a program compiled with checks takes a second for each megabyte.
-    listed = runs.start("show", "--all", "--long")
-    all_explained = runs.start("explain", "--all")
-    # The texts of a line may have line ends other than LF.
-    report = runs.start("explain").text().removesuffix("\n").split("\n")
-    if report[:1] == ["bad log L1 record 0"]:
-        raise Failed(f"{log.shown}: not a log: its first line is not that of a log", 2)
-    texts = texts_of(runs, report)
-    outline = outline_of(listed.lines(), 2 * given.most_events + LISTED_ALWAYS)
-    if report[0].startswith("no "):
-        explain(outline, all_explained)
-    if given.small:
-        only_first(outline, report)
-        texts = texts and cuts.around_difference(texts)
-    page = Document(file)
-    name = plain(log.name or "standard input")
-    page.write_until("DATA", NAME=name, REPORT=plain("\n".join(report)), VERSION=plain(version))
-    contents = blocks.Contents(file)
-    session, log_format, left = cuts.session_of(runs, listed, outline, given, contents.put)
-    contents.end_block()
-    log.check_unchanged()
-    named = {str(it.rule) for it in outline.violations} | set(report[0].split()[2:3])
-    index = {
+def words_of_reports():
+    """What makes the lines of a report from its objects."""
+    try:
+        return Report()
+    except OSError as error:
+        raise Failed(f"there is no {error.filename}: this command is not installed completely"
+                     ) from error
+
+
+def report_of(runs):
+    """The objects of `explain`."""
+    said = list(runs.start("explain", "--json").objects())
+    if not said:
+        raise Failed("lspcheck explain: it wrote nothing")
+    if said[0]["is"] == "bad log" and said[0].get("code") == "L1":
+        raise Failed(f"{runs.log.shown}: not a log: its first line is not that of a log", 2)
+    return said
+
+
+def index_of(log, said, listing, session):
+    """What the page knows about a log, but for its rows and violations."""
+    named = {str(it.rule) for it in listing.violations} | {said[0].get("code")}
+    return {
         "name": log.name,
         "bytes": log.size,
-        "format": log_format,
-        "version": version,
-        "report": report,
-        "ending": outline.report,
+        "exit": exit_of(log),
+        "said": said,
+        "ending": listing.ending,
         "kinds": KINDS,
-        "events": outline.events,
-        "sides": outline.sides,
+        "events": listing.events,
+        "sides": listing.sides,
         "named": len(session.named),
-        "unlisted": outline.unlisted,
+        "unlisted": listing.unlisted,
         "encoding": session.encoding,
         "sync": session.sync,
         "client": session.client,
         "server": session.server,
         "methods": list(session.methods.numbers),
         "documents": list(session.documents.numbers),
-        "left": left,
-        "small": given.small,
-        "exit": exit_of(log),
         "rules": {number: rule for number, rule in rules.rules().items() if number in named},
+    }
+
+
+def write_page(file, runs, given):
+    """Writes the page of a log into a file."""
+    version, log, report = runs.program.version(), runs.log, words_of_reports()
+    # All at once: a program compiled with checks takes a second for each megabyte.
+    listed = runs.start("show", "--all", "--long", "--json")
+    all_explained = runs.start("explain", "--all", "--json")
+    said = report_of(runs)
+    texts = texts_of(runs, said[0])
+    listing = Listing(listed.objects(), 2 * given.most_events + LISTED_ALWAYS)
+    shown, choice = listing, cuts.Everything()
+    if not cuts.is_short(runs, listed, given):
+        complete(listing.read(), said, all_explained, report)
+        shown, choice = Listing(listed.objects()), cuts.choice_of(runs, listed, listing, given)
+    if given.small:
+        only_first(listing, said)
+        texts = texts and cuts.around_difference(texts)
+    page, lines = Document(file), report.lines(said)
+    name = plain(log.name or "standard input")
+    page.write_until("DATA", NAME=name, REPORT=plain("\n".join(lines)), VERSION=plain(version))
+    contents = blocks.Contents(file)
+    session, log_format = read_session(log, shown, choice, contents.put, runs.progress)
+    contents.end()
+    if shown is listing:
+        complete(listing, said, all_explained, report)
+    log.check_unchanged()
+    index = {
+        **index_of(log, said, listing, session),
+        "format": log_format,
+        "version": version,
+        "report": lines,
+        "left": cuts.left_out(runs, listing, choice, session, given),
+        "small": given.small,
         "texts": texts,
         "blocks": contents.counts,
     }
-    pieces = blocks.index_pieces(index, session.rows, outline.violations)
-    blocks.write_block(file, "session", pieces)
+    pieces = blocks.index_pieces(index, session.rows, listing.violations)
+    blocks.write_block(file, "session", blocks.compressed(pieces))
     page.write_until(None)

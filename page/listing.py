@@ -1,17 +1,24 @@
-"""Reads the lines of `lspcheck show --all --long` and of `lspcheck explain --all`."""
+"""Reads the objects that `lspcheck show --long --json` and `explain --all --json` write."""
 
-import json
-import re
 from dataclasses import dataclass, field
+
+from program import Failed
+from report_lines import NoObject, object_of
 
 EDITOR, SERVER, SNAPSHOT = range(3)
 SIDES = {"editor": EDITOR, "server": SERVER, "snapshot": SNAPSHOT}
 KINDS = ["request", "notification", "result", "error", "snapshot", "unreadable"]
+EVENTS = set(KINDS[:5])
+# The rules of an end that comes too early, which no event breaks.
+ENDS = (107, 303, 407)
 
-NO = re.compile(r"no (\d+) (editor|server|snapshot) (\d+) event (\d+)( follows)?")
-EVENT = re.compile(r"(\d+) (?:(editor|server) (request|notification|result|error)|(snapshot)) (.*)")
 
-decode = json.JSONDecoder().raw_decode
+def objects_in(lines, command):
+    """The objects that a command of lspcheck writes with --json, one on each line."""
+    try:
+        yield from map(object_of, lines)
+    except NoObject as error:
+        raise Failed(f"lspcheck {command}: {error}") from error
 
 
 @dataclass
@@ -24,7 +31,6 @@ class Event:
     kind: str
     method: str = None
     id: object = None
-    code: int = None
     uri: str = None
     version: int = None
     rule: int = None
@@ -32,100 +38,98 @@ class Event:
 
 @dataclass
 class Violation:
-    """A rule that an event breaks, or the end of the log, with the lines that explain it."""
+    """A rule that an event breaks, or the end of the log, with the objects that explain it and what
+    is written about it in words."""
 
     rule: int
     who: str
     number: int
     event: int
     follows: bool
-    text: str = ""
+    text: str
+    facts: list = field(default_factory=list)
     lines: list = field(default_factory=list)
 
 
-def values_of(words):
-    """The JSON values of a line, which are separated by one space."""
-    at = 0
-    while at < len(words):
-        value, at = decode(words, at)
-        yield value
-        at += 1
+def event_of(it):
+    """The event of an object of `show --long`."""
+    side = SIDES[it.get("side", "snapshot")]
+    return Event(it["event"], side, it["number"], it["is"], it.get("method"), it.get("id"),
+                 it.get("uri"), it.get("version"))
 
 
-def event_of(found):
-    """The event of a line of `show --long`."""
-    event, side, kind, snapshot, words = found.groups()
-    values = list(values_of(words))
-    if snapshot:
-        version, _, uri, number = values
-        return Event(int(event), SNAPSHOT, number, "snapshot", uri=uri, version=version)
-    read = Event(int(event), SIDES[side], 0, kind)
-    if kind != "notification":
-        read.id = values.pop(0)
-    if kind == "error":
-        read.code = values.pop(0)
-    if kind in ("request", "notification"):
-        read.method = values.pop(0)
-    read.number = values.pop(0)
-    read.uri = values.pop(0) if values else None
-    read.version = values.pop(0) if values else None
-    return read
+def violation_of(it):
+    return Violation(*(it[key] for key in ("rule", "who", "number", "event", "follows", "text")))
 
 
-def violation_of(found):
-    rule, who, number, event, follows = found.groups()
-    return Violation(int(rule), who, int(number), int(event), follows is not None)
+def broken(violation):
+    """The event that breaks a rule, whose words are read from its content later."""
+    if violation.rule in ENDS:
+        return None
+    side = SIDES[violation.who]
+    kind = "snapshot" if side == SNAPSHOT else "unreadable"
+    return Event(violation.event, side, violation.number, kind, rule=violation.rule)
 
 
 class Listing:
-    """The events of `show --all --long`, each with the violation in its place, if there is one."""
+    """The events of `show --long`, one after the other. On the way, it counts them and keeps the
+    violations and what comes after the events."""
 
-    def __init__(self, lines, read=event_of):
-        # `read` makes an event of its line.
-        self.lines, self.read = iter(lines), read
-        # The lines after the last event: the report, the fault of the log, or the count.
-        self.report = []
+    def __init__(self, objects, most=0):
+        self.objects, self.most = objects, most
+        # How many messages of the editor, of the server, and snapshots there are.
+        self.sides = [0, 0, 0]
+        # The first violations, and how many more there are.
+        self.violations, self.unlisted = [], 0
+        # What comes after the events: the report, the fault of the log, or the count.
+        self.ending = []
+
+    @property
+    def events(self):
+        return sum(self.sides)
 
     def __iter__(self):
-        """Pairs of an event and its violation; an end that breaks a rule has no event."""
-        for line in self.lines:
-            found = EVENT.fullmatch(line)
-            if found:
-                yield self.read(found), None
-                continue
-            found = NO.fullmatch(line)
-            if not found:
-                self.report = [line, *self.lines]
-                return
-            violation = violation_of(found)
-            violation.text = next(self.lines, "")
-            yield self.broken(violation), violation
+        it = None
+        try:
+            for it in self.objects:
+                if event := self.event_of(it):
+                    self.sides[event.side] += 1
+                    yield event
+        except (LookupError, TypeError) as error:
+            raise Failed(f"lspcheck show: it wrote an event without its members: {it}") from error
 
-    @staticmethod
-    def broken(violation):
-        """The event that breaks a rule, whose words are read from its content later."""
-        if violation.rule in (107, 303, 407):
+    def event_of(self, it):
+        """The event of an object, if it is about one."""
+        if it["is"] in EVENTS and "event" in it:
+            return event_of(it)
+        if it["is"] != "no":
+            self.ending.append(it)
             return None
-        side = SIDES[violation.who]
-        kind = "snapshot" if side == SNAPSHOT else "unreadable"
-        event = Event(violation.event, side, violation.number, kind)
-        event.rule = violation.rule
-        return event
-
-
-def explained(lines, most):
-    """The first violations of `explain --all`, each with its lines, and the lines after them."""
-    found, rest = [], []
-    for line in lines:
-        match = NO.fullmatch(line)
-        if match and len(found) == most:
-            return found, rest
-        if match:
-            found.append(violation_of(match))
-        elif line.startswith(("offences ", "bad log ", "yes")) or rest or not found:
-            rest.append(line)
-        elif not found[-1].text:
-            found[-1].text = line
+        violation = violation_of(it)
+        if len(self.violations) < self.most:
+            self.violations.append(violation)
         else:
-            found[-1].lines.append(line)
-    return found, rest
+            self.unlisted += 1
+        return broken(violation)
+
+    def read(self):
+        """Reads all events. Returns itself."""
+        for _ in self:
+            pass
+        return self
+
+
+def explained(objects, most):
+    """For the first violations of `explain --all`, by rule, event and side: the objects."""
+    found, last = {}, None
+    try:
+        for it in objects:
+            if it["is"] == "no" and len(found) < most:
+                last = found[it["rule"], it["event"], it["who"]] = [it]
+            elif it["is"] in ("no", "offences", "bad log"):
+                return found
+            elif last:
+                last.append(it)
+    except LookupError as error:
+        raise Failed(f"lspcheck explain: it wrote a violation without its members: {it}") from error
+    return found

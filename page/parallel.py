@@ -6,6 +6,7 @@ import sys
 import tempfile
 import time
 
+from listing import objects_in
 from program import Failed, end, printable
 from stops import held
 
@@ -41,7 +42,9 @@ class Run:
     def __init__(self, program, words, progress):
         self.program, self.words, self.progress = program, words, progress
         self.log = open(program.log, "rb")
-        self.out, self.errors = tempfile.TemporaryFile(), tempfile.TemporaryFile()
+        # Line ends are LF; in what a line shows there may be others.
+        text = {"encoding": "utf-8", "errors": "replace", "newline": "\n"}
+        self.out, self.errors = tempfile.TemporaryFile("w+", **text), tempfile.TemporaryFile()
         how = {"stdin": self.log, "stdout": self.out, "stderr": self.errors}
         try:
             self.running = subprocess.Popen([program.path, *words, "--quiet"], **how)
@@ -67,13 +70,17 @@ class Run:
 
     def text(self):
         self.done().out.seek(0)
-        return self.out.read().decode("utf-8", "replace")
+        return self.out.read()
 
-    def lines(self):
-        """The lines without LF: other line ends may be in the texts that a line shows."""
+    def count(self):
+        """How many lines the command writes."""
         self.done().out.seek(0)
-        for line in self.out:
-            yield line.decode("utf-8", "replace").removesuffix("\n")
+        return sum(1 for _ in self.out)
+
+    def objects(self):
+        """The objects that the command writes with --json, one on each line."""
+        self.done().out.seek(0)
+        yield from objects_in(self.out, self.words[0])
 
     def close(self):
         end(self.running)

@@ -2,6 +2,7 @@
 
 import os
 import shutil
+import signal
 import subprocess
 from pathlib import Path
 
@@ -9,6 +10,8 @@ from stops import held
 
 # What these commands answer when they could do their work: yes or done, no, a bad log.
 ANSWERS = (0, 1, 2)
+# What they answer if they do not know the words of the command line.
+BAD_WORDS = 64
 # How many seconds a program has to end when it is asked to.
 PATIENCE = 5
 
@@ -25,6 +28,14 @@ def printable(text):
     """A text of a program as one line, without what a terminal would obey."""
     lines = "; ".join(line for line in text.splitlines() if line)
     return "".join(it if it.isprintable() else "?" for it in lines)
+
+
+def end_in_words(status):
+    """How a program ended, by its status, or the signal that ended it as a negative number."""
+    if status >= 0:
+        return f"it ended with status {status}"
+    names = {it.value: it.name for it in signal.Signals}
+    return f"it was ended by {names.get(-status, f'signal {-status}')}"
 
 
 def find_program(named, script):
@@ -89,7 +100,10 @@ class Program:
         """Fails with the program's own words, and with its status if that is a fault of its own."""
         if status in ANSWERS:
             return
-        said = printable(errors.decode(errors="replace")) or f"it ended with status {status}"
+        if status == BAD_WORDS:
+            raise Failed(f"{printable(self.path)}: this lspcheck does not know "
+                         f"'{' '.join(words)}'; it may be an older version")
+        said = printable(errors.decode(errors="replace")) or end_in_words(status)
         raise Failed(f"lspcheck {words[0]}: {said}", status if status in (3, 4) else 1)
 
     def output(self, *words):

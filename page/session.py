@@ -2,11 +2,10 @@
 
 import json
 from array import array
-from dataclasses import dataclass, field
-from json.encoder import encode_basestring_ascii as quoted_json
 
+from blocks import json_of
 from contents import FRAMES, Contents, Other
-from listing import KINDS, SNAPSHOT, Listing
+from listing import KINDS, SNAPSHOT
 from summaries import SYNCS, at, cut, summary, sync_of
 
 # How many violations are explained.
@@ -15,56 +14,18 @@ LONGEST_NAME = 300
 ENCODINGS = ("utf-8", "utf-16", "utf-32")
 # The columns of the rows, by the names that the scripts of the page use: those of numbers, and
 # those whose values are any JSON.
-NUMBERS = [
-    "event", "side", "number", "kind", "method", "document", "bytes",
+NUMBERS = ["event", "side", "number", "kind", "method", "document", "bytes"]
+VALUES = ["id", "version", "summary"]
+JOINS = [
     # For a response or a cancel, the event of its request; for a request, that of its response.
     "partner",
     # For a request, the event that cancels it, and the last response to it that broke a rule.
     "cancel", "broken",
 ]
-VALUES = ["id", "version", "summary"]
-
-
-@dataclass
-class Outline:
-    """What one reading of the list of events gives: how many there are, and the violations."""
-
-    # How many messages of the editor, of the server, and snapshots there are.
-    sides: list = field(default_factory=lambda: [0, 0, 0])
-    violations: list = field(default_factory=list)
-    unlisted: int = 0
-    report: list = field(default_factory=list)
-
-    @property
-    def events(self):
-        return sum(self.sides)
-
-
-def side_of(found):
-    """The side of the event of a line of `show`."""
-    return SNAPSHOT if found[4] else int(found[2] == "server")
-
-
-def outline_of(lines, most):
-    """The outline of a log, with the first violations."""
-    found = Outline()
-    listing = Listing(lines, side_of)
-    for event, violation in listing:
-        if event is not None:
-            found.sides[event.side if violation else event] += 1
-        if violation and len(found.violations) < most:
-            found.violations.append(violation)
-        elif violation:
-            found.unlisted += 1
-    found.report = listing.report
-    return found
-
-
-def json_of(value):
-    """The JSON of a text, a number or None, in less time than `json.dumps` takes for it."""
-    if isinstance(value, str):
-        return quoted_json(value).encode()
-    return b"null" if value is None else b"%d" % value
+# The number of each kind of event.
+PLACES = {kind: place for place, kind in enumerate(KINDS)}
+# How many rows are put into the columns at once, which is faster than one by one.
+TOGETHER = 1000
 
 
 class Columns:
@@ -73,20 +34,35 @@ class Columns:
     def __init__(self):
         self.numbers = {name: array("q") for name in NUMBERS}
         self.values = {name: bytearray() for name in VALUES}
+        self.joins = {name: array("q") for name in JOINS}
+        self.latest = []
 
     def __len__(self):
-        return len(self.numbers["event"])
+        return len(self.joins["partner"])
 
-    def add(self, numbers, values):
-        """Adds a row: both lists are in the order of the names above."""
-        for column, number in zip(self.numbers.values(), numbers):
-            column.append(number)
-        for column, value in zip(self.values.values(), values):
-            column += b"%b," % json_of(value)
+    def add(self, row, partner):
+        """Adds a row, whose values are in the order of the names above. Returns its place."""
+        self.latest.append(row)
+        for name, column in self.joins.items():
+            column.append(partner if name == "partner" else 0)
+        if len(self.latest) == TOGETHER:
+            self.settle()
+        return len(self) - 1
+
+    def settle(self):
+        """Puts the latest rows into the columns."""
+        columns = zip(*self.latest)
+        for column in self.numbers.values():
+            column.extend(next(columns, ()))
+        for column in self.values.values():
+            if values := next(columns, None):
+                column += json_of(values)[1:-1] + b","
+        self.latest.clear()
 
     def json(self):
         """Pairs of a name and the JSON of its column."""
-        for name, column in self.numbers.items():
+        self.settle()
+        for name, column in {**self.numbers, **self.joins}.items():
             yield name, str(column.tolist()).replace(" ", "").encode()
         for name, column in self.values.items():
             yield name, b"[%b]" % column[:-1]
@@ -95,6 +71,13 @@ class Columns:
 def key_of(id):
     """An id as a key: 7 and "7" are different."""
     return (type(id), id)
+
+
+def shown_id(id):
+    """An id as JSON text."""
+    if id.__class__ is int:
+        return str(id)
+    return cut(json.dumps(id, ensure_ascii=False), LONGEST_NAME)
 
 
 class Joins:
@@ -124,12 +107,20 @@ class Joins:
         return self.open[event.side].get(key, (None, None))
 
 
-def message_of(event, content):
+def text_of(content):
+    """A content as a text, in which each byte that is not UTF-8 is a lone surrogate."""
+    return content.decode("utf-8", "surrogateescape")
+
+
+def message_of(event, text):
     """The JSON value of a message, or None."""
     if event.side == SNAPSHOT or event.rule in FRAMES:
         return None
     try:
-        return json.loads(content)
+        if not text.isascii():
+            # Fails if there are bytes that are not UTF-8.
+            text.encode()
+        return json.loads(text)
     except (ValueError, RecursionError):
         return None
 
@@ -189,7 +180,7 @@ class Session:
             ("cancel", self.joins.cancelled(event, message)),
         ):
             if row is not None:
-                self.rows.numbers[column][row] = event.event
+                self.rows.joins[column][row] = event.event
             if request is not None:
                 return request
         return None
@@ -208,58 +199,56 @@ class Session:
 
     def take(self, event, content, is_shown, is_whole):
         """Takes the next event of the log, and adds a row if it is shown."""
+        text, message, listed = text_of(content), None, event.uri
         is_read = is_shown or event.rule or event.method in ("$/cancelRequest", "initialize")
-        message = message_of(event, content) if is_read or event.kind == "result" else None
+        if is_read or event.kind == "result":
+            message = message_of(event, text)
         if is_read and not event.rule and event.method != at(message, "method"):
             raise Other()
-        listed = event.uri
         describe(event, message)
         self.named.add(event.uri if event.rule else listed)
         request = self.join(event, message)
         asked = request.method if request and event.kind != "notification" else None
-        self.note_handshake(event, message, asked)
-        row = self.add(event, message, request, asked, len(content)) if is_shown else None
+        if "initialize" in (event.method, asked):
+            self.note_handshake(event, message, asked)
+        row = None
         if is_shown:
-            self.put(content.decode("utf-8", "surrogateescape") if is_whole else None)
+            row = self.add(event, message, request, asked, len(content))
+            self.put(text if is_whole else None)
         self.joins.ask(event, row)
 
     def add(self, event, message, request, asked, size):
         """Adds the row of an event. Returns its place among the rows."""
         has_id = event.id is not None or event.kind in ("result", "error")
         is_text = event.side == SNAPSHOT
-        self.rows.add(
+        return self.rows.add(
             (
                 event.event,
                 event.side,
                 event.number,
-                KINDS.index(event.kind),
+                PLACES[event.kind],
                 self.methods.number(event.method or asked),
                 self.documents.number(event.uri),
                 size,
-                request.event if request else 0,
-                0,
-                0,
-            ),
-            (
-                cut(json.dumps(event.id, ensure_ascii=False), LONGEST_NAME) if has_id else None,
+                shown_id(event.id) if has_id else None,
                 event.version,
                 f"{size:,} bytes" if is_text else summary(message, asked),
             ),
+            request.event if request else 0,
         )
-        return len(self.rows) - 1
 
 
-def read_session(log, lines, choice, put, progress):
+def read_session(log, listing, choice, put, progress):
     """The session of the events that are chosen, and the format of the log."""
     session = Session(put)
     with open(log.path, "rb") as file:
         contents = Contents(file)
-        for event, _ in Listing(lines):
-            if event is not None:
-                content = contents.of(event)
-                is_shown = choice.is_shown(event)
-                is_whole = is_shown and choice.is_whole(event, content)
-                session.take(event, content, is_shown, is_whole)
-                progress.advance("it", file.tell())
+        for event in listing:
+            content = contents.of(event)
+            is_shown = choice.is_shown(event)
+            is_whole = is_shown and choice.is_whole(event, content)
+            session.take(event, content, is_shown, is_whole)
+            progress.advance("it", file.tell())
+    session.rows.settle()
     session.named.discard(None)
     return session, contents.format

@@ -9,13 +9,13 @@ SYNCS = {0: "none", 1: "full", 2: "incremental"}
 
 def at(value, *path):
     """The member of a JSON value that is at the end of a path, or None."""
-    for name in path:
-        if isinstance(value, dict):
-            value = value.get(name)
-        elif isinstance(value, list) and isinstance(name, int) and name < len(value):
+    try:
+        for name in path:
+            if value.__class__ is str:
+                return None
             value = value[name]
-        else:
-            return None
+    except (LookupError, TypeError):
+        return None
     return value
 
 

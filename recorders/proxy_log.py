@@ -12,7 +12,6 @@ import os
 import queue
 import re
 import select
-import subprocess
 import sys
 import threading
 import time
@@ -101,74 +100,6 @@ class Feed(threading.Thread):
             say(f"{self.consequence}: {reason}")
         self.end()
         os.close(self.pipe)
-
-
-class Check(threading.Thread):
-    """`lspcheck explain --all`, which reads the log while it is written. Each explanation is
-    passed to a function as soon as it is written, and so is each note that says that the server may
-    have dropped a document."""
-
-    # An explanation ends with the next one, with a note, or with the number of all.
-    told = re.compile(
-        rb"^no .*?(?=^no |^note |^offences |\Z)|^note (?:past-end|range-length|refused) [^\n]*\n",
-        re.M | re.S,
-    )
-
-    def __init__(self, options, tell):
-        super().__init__(daemon=True)
-        words = ["lspcheck", "explain", "--all", *options, "-"]
-        pipes = {"stdin": subprocess.PIPE, "stdout": subprocess.PIPE}
-        self.process, self.tell = subprocess.Popen(words, **pipes), tell
-        self.feed = Feed(os.dup(self.process.stdin.fileno()), None)
-        self.process.stdin.close()
-        self.feed.start()
-        self.start()
-
-    def run(self):
-        source, held = self.process.stdout.fileno(), b""
-        while data := os.read(source, 65536):
-            held += data
-            # What comes at once belongs together.
-            if not is_readable(source, 0.05):
-                self.tell_all(held)
-                held = b""
-        self.tell_all(held)
-
-    def tell_all(self, text):
-        for found in self.told.findall(text):
-            self.tell(found)
-
-
-class Alarm:
-    """Reports each independent violation on standard error and in a file, and notes with them.
-    Texts are compared whatever their line ends are; a second check finds the first two that differ
-    in these alone."""
-
-    def __init__(self, path):
-        self.path, self.lock, self.has_told_line_ends = path, threading.Lock(), False
-        options = ["--ignore-line-ends", "--notes"]
-        self.checks = [Check(options, self.tell), Check([], self.tell_line_ends)]
-
-    def write(self, data):
-        for check in self.checks:
-            check.feed.put(data)
-
-    def tell(self, text):
-        with contextlib.suppress(OSError), self.lock:
-            write_all(2, text)
-        with contextlib.suppress(OSError), open(self.path, "ab", opener=private) as file:
-            file.write(text)
-
-    def tell_line_ends(self, text):
-        if not self.has_told_line_ends and b"\nends " in text:
-            self.has_told_line_ends = True
-            self.tell(text.replace(b"\n", b", line ends alone\n", 1))
-
-    def end(self):
-        for check in self.checks:
-            check.feed.end()
-        for check in self.checks:
-            check.join(PATIENCE)
 
 
 def private(path, flags):
@@ -271,8 +202,11 @@ class Log(threading.Thread):
         return True
 
     def start_alarm(self):
+        # Only now, since the editor waited for what was imported first.
+        import proxy_alarm
+
         try:
-            self.alarm = Alarm(self.sibling("explain"))
+            self.alarm = proxy_alarm.Alarm(self.sibling("explain"))
         except OSError as error:
             say(f"lspcheck: {error.strerror}; the session is recorded but not checked")
 

@@ -4,10 +4,10 @@ from dataclasses import dataclass, replace
 from functools import cached_property
 
 from contents import Contents
-from listing import EDITOR, SERVER, SNAPSHOT, Event, Listing
+from listing import EDITOR, SERVER, SNAPSHOT, Event, Listing, objects_in
 from messages import encoded
 from program import Failed
-from session import describe, message_of
+from session import describe, message_of, text_of
 from session_log import Record, as_records, framed
 from session_log import EDITOR as WRITTEN
 from session_log import SERVER as READ
@@ -88,7 +88,7 @@ class Case:
 
 def item_of(event, content):
     """An event that was read. Of a message that breaks a rule, its words come from its content."""
-    message = message_of(event, content)
+    message = message_of(event, text_of(content))
     describe(event, message)
     uri = event.uri
     if event.side != SNAPSHOT:
@@ -102,13 +102,12 @@ def item_of(event, content):
 def read_case(program):
     """The events of a log up to the first that breaks a rule, or all of them."""
     items = []
-    lines = program.output("show", "--long").decode("utf-8", "replace").split("\n")
+    lines = program.output("show", "--long", "--json").splitlines()
     try:
         with open(program.log, "rb") as file:
             contents = Contents(file)
-            for event, _ in Listing(lines):
-                if event is not None:
-                    items.append(item_of(event, contents.of(event)))
+            for event in Listing(objects_in(lines, "show")):
+                items.append(item_of(event, contents.of(event)))
     except OSError as error:
         raise Failed(f"{program.log}: {error.strerror}", 3) from error
     return Case(contents.format, tuple(items))

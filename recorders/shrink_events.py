@@ -6,7 +6,7 @@ from dataclasses import replace
 from cuts import can_name
 from listing import EDITOR
 from messages import opened
-from session import key_of, message_of
+from session import key_of, message_of, text_of
 from shrink_case import CHANGE, CLOSE, OPEN, SAVE
 from summaries import at
 
@@ -65,7 +65,8 @@ class Base:
         language = language if isinstance(language, str) else "plaintext"
         content = opened(self.uri, language, self.item.version, text)
         event = replace(self.item.event, method=OPEN)
-        return replace(self.item, event=event, content=content, value=message_of(event, content))
+        value = message_of(event, text_of(content))
+        return replace(self.item, event=event, content=content, value=value)
 
     def begin(self, case, program):
         """The case without the earlier texts: the document is opened with the text that it has

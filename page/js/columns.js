@@ -54,13 +54,12 @@ function isInside(line, column) {
 
 // The line of the first wrong position of a 605 or 606, or null.
 function columnsPart(violation, row) {
-  const change = linesWith(violation, "change")[0];
-  if (!change || change[1] === "whole" || (violation.rule !== 605 && violation.rule !== 606)) {
+  const change = factsOf(violation, "change")[0];
+  if (!change || change.whole || (violation.rule !== 605 && violation.rule !== 606)) {
     return null;
   }
-  const [which, ...range] = change.map(Number);
-  const lines = linesBeforeChange(row, which);
-  const ends = [range.slice(0, 2), range.slice(2)];
+  const lines = linesBeforeChange(row, change.which);
+  const ends = [[change.line, change.column], [change.end_line, change.end_column]];
   const places = ends.filter(([line]) => lines?.[line] !== undefined);
   if (places.length === 0) {
     return null;
@@ -68,7 +67,7 @@ function columnsPart(violation, row) {
   const isWrong = ([line, column]) => isInside(lines[line], column);
   const [line, column] = places.find(isWrong) ?? places[0];
   const cells = columnsOf(lines[line]);
-  const fits = linesWith(violation, "fits")[0] ?? [];
+  const fits = factsOf(violation, "fits")[0]?.names ?? [];
   const encodings = ENCODINGS.filter((it) => it === session.encoding || fits.includes(it));
   return element("section", "line-columns",
     element("h3", "", `Line ${line + 1} before this change `, source("page")),

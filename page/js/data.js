@@ -15,6 +15,9 @@ const session = JSON.parse(await loaded("session"));
 const blockTexts =
   await Promise.all(session.blocks.map((_, number) => loaded(`contents-${number}`)));
 
+// What `explain` wrote first, and what `show --all` wrote about a damaged place, if there is one.
+const verdict = session.said[0], damage = session.ending.find((it) => it.is === "bad log");
+
 const EDITOR = 0, SERVER = 1, SNAPSHOT = 2;
 const SIDES = ["editor", "server", "snapshot"];
 // How many blocks of contents are kept after they were read.

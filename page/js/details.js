@@ -4,10 +4,9 @@ function hasText(row) {
   return row.document >= 0 && settingRows[row.document].length > 0;
 }
 
-// The values of each line of an explanation that begins with a word.
-function linesWith(violation, word) {
-  const found = violation.lines.map(wordsOf).filter(([first]) => first === word);
-  return found.map(([, values]) => values);
+// The objects of one kind that explain a violation.
+function factsOf(violation, kind) {
+  return violation.facts.filter((it) => it.is === kind);
 }
 
 // The text of the editor itself at a violation, and the row up to which its messages count.
@@ -19,8 +18,8 @@ function ownText(violation, row) {
   if (violation.rule === 608) {
     return [messageOf(row)?.params?.text, row];
   }
-  const first = linesWith(violation, "snapshot")[0];
-  const snapshot = first && rowOfEvent(Number(first[1]));
+  const first = factsOf(violation, "snapshot")[0];
+  const snapshot = first && rowOfEvent(first.event);
   return [snapshot && contentOf(snapshot), row];
 }
 
@@ -54,26 +53,18 @@ function textsThatDiffer(violation, row) {
     element("p", "quiet", said, "what differs is marked by this page."));
 }
 
-// The lines of `explain` in words, and folded as they are.
-function explanation(violation) {
-  const facts = element("dl", "facts");
-  for (const line of violation.lines) {
-    const said = inWords(line);
-    if (said) {
-      facts.append(element("dt", "", said[0]), element("dd", "", ...said[1]));
-    }
+// What `explain` wrote, in words.
+function explanation(facts) {
+  const list = element("dl", "facts");
+  for (const it of facts.filter((fact) => !ELSEWHERE.includes(fact.is))) {
+    const [label, shown] = inWords(it);
+    list.append(element("dt", "", label), element("dd", "", ...shown));
   }
-  return facts;
-}
-
-function reportOf(violation) {
-  const follows = violation.follows ? " follows" : "";
-  const head = `no ${violation.rule} ${violation.who} ${violation.number} event ${violation.event}`;
-  return [head + follows, violation.text, ...violation.lines].join("\n");
+  return list;
 }
 
 function whatWasWritten(violation) {
-  return folded("The words of lspcheck", () => longText(reportOf(violation), "raw"));
+  return folded("The words of lspcheck", () => longText(violation.lines.join("\n"), "raw"));
 }
 
 // What RULES says about a rule.
@@ -98,9 +89,9 @@ function aboutRule(rule) {
 }
 
 // A suspect: the message, and folded what it changed.
-function suspectPart(values, isOpen) {
-  const [version, ...by] = values, row = rowOfEvent(Number(by[1]));
-  const head = element("p", "is-suspect", `version ${version}: `, ...shownEvent(by));
+function suspectPart(suspect, isOpen) {
+  const row = rowOfEvent(suspect.event);
+  const head = element("p", "is-suspect", `version ${suspect.version}: `, ...shownEvent(suspect));
   if (!row || row.method !== "textDocument/didChange") {
     return head;
   }
@@ -109,10 +100,10 @@ function suspectPart(values, isOpen) {
 }
 
 function suspects(violation) {
-  const found = linesWith(violation, "suspect");
+  const found = factsOf(violation, "suspect");
   return found.length === 0 ? null : element("section", "suspects",
     element("h3", "", "Suspects ", source("lspcheck")),
-    ...found.map((values) => suspectPart(values, found.length === 1)));
+    ...found.map((it) => suspectPart(it, found.length === 1)));
 }
 
 // Of a violation that follows: from which.
@@ -126,7 +117,8 @@ function whyItFollows(violation) {
 
 function whyItIs(violation) {
   const command = lspcheckCommand("explain", "--all");
-  const why = violation.lines.length > 0 ? [explanation(violation), whatWasWritten(violation)] :
+  const why = violation.facts.length > 0 ?
+    [explanation(violation.facts), whatWasWritten(violation)] :
     [element("p", "", "This page explains only the first violations. The others are explained by ",
       shownCommand(command), ".")];
   return element("section", "why", element("h3", "", "Why ", source("lspcheck")), ...why);

@@ -33,7 +33,7 @@ function whyUnanswered(row) {
   if (stopOf(other, [107], 0)) {
     return [`no answer before the ${who}’s last frame, which is cut off`];
   }
-  if (session.ending[0].startsWith("bad log")) {
+  if (damage) {
     return ["no answer before the place where the log is damaged"];
   }
   return ["not answered in the log"];

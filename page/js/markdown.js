@@ -38,10 +38,10 @@ function shortDifference() {
 }
 
 function markdown() {
-  const [, verdict, text] = verdictOf();
+  const [, word, text] = verdictOf();
   const names = [editorName ?? "an editor", serverName ?? "a server"];
   return [
-    `**${verdict}: ${text}**`, "",
+    `**${word}: ${text}**`, "",
     `${names.map(markdownCode).join(" to ")}, columns in ${session.encoding}, ` +
       `synchronisation: ${session.sync}. ` +
       `Log ${markdownCode(namedText(session.name ?? "standard input"))}, ` +

@@ -3,14 +3,15 @@
 const MOST_CHIPS = 36, MOST_DOCUMENTS = 4;
 
 function verdictOf() {
-  const [first, second] = session.report;
-  if (first === "yes") {
+  if (verdict.is === "yes") {
     return ["yes", "Yes", "The session keeps every rule"];
   }
-  if (first.startsWith("no ")) {
-    return ["no", `No · rule ${first.split(" ")[1]}`, second];
-  }
-  return ["bad", "Bad log", second];
+  const isNo = verdict.is === "no";
+  return [isNo ? "no" : "bad", isNo ? `No · rule ${verdict.rule}` : "Bad log", verdict.text];
+}
+
+function placeOfDamage() {
+  return `bad log ${damage.code} record ${damage.record}`;
 }
 
 // Where a violation is: an event, or the end of the log.
@@ -20,7 +21,7 @@ function placeOfViolation(violation) {
 
 function whereItIs() {
   const violation = session.violations[0];
-  if (!violation || session.report[0].startsWith("bad")) {
+  if (!violation || verdict.is !== "no") {
     return null;
   }
   if (violation.event > session.events) {
@@ -32,10 +33,9 @@ function whereItIs() {
 }
 
 // Of a log that breaks a rule and is damaged, too: both are said first.
-function damage() {
-  const [first, text] = session.ending;
-  return session.report[0].startsWith("bad log") || !first.startsWith("bad log") ? null :
-    element("p", "where damaged", `The log is damaged, too: ${first}, ${text}. `,
+function damagePart() {
+  return !damage || verdict.is === "bad log" ? null :
+    element("p", "where damaged", `The log is damaged, too: ${placeOfDamage()}, ${damage.text}. `,
       "What follows that place is not shown.");
 }
 
@@ -54,8 +54,8 @@ function endOfServer() {
 
 // How many violations lspcheck counted, and how many of them follow from others.
 function countsOfViolations() {
-  const line = session.ending.find((it) => it.startsWith("offences ")) ?? "offences 0 following 0";
-  return line.split(" ").filter((word) => /^\d+$/.test(word)).map(Number);
+  const found = session.ending.find((it) => it.is === "offences");
+  return [found?.all ?? 0, found?.following ?? 0];
 }
 
 function factsOfLog() {
@@ -72,11 +72,11 @@ function factsOfLog() {
 }
 
 function verdictPart() {
-  const [kind, verdict, text] = verdictOf();
+  const [kind, word, text] = verdictOf();
   return element("header", `verdict verdict-${kind}`,
     element("p", "name", visibleText(session.name ?? "standard input", true)),
-    element("h1", "", element("span", "word", verdict), " ", text),
-    whereItIs(), damage(), whoLine(),
+    element("h1", "", element("span", "word", word), " ", text),
+    whereItIs(), damagePart(), whoLine(),
     session.exit.length === 0 ? null : element("p", "where", visibleText(endOfServer())),
     factsOfLog(),
     element("p", "quiet", "The verdict is that of ", shownText(session.version),
@@ -87,27 +87,26 @@ function verdictPart() {
 }
 
 function notesPart() {
-  const notes = session.report.filter((line) => line.startsWith("note "));
+  const notes = session.said.filter((it) => it.is === "note");
   return notes.length === 0 ? null : element("section", "card",
     element("h2", "", "Notes ", source("lspcheck")),
-    element("ul", "", ...notes.map((line) => element("li", "", ...noteInWords(line)))));
+    element("ul", "", ...notes.map((it) => element("li", "", ...noteInWords(it)))));
 }
 
 function badLogPart() {
-  if (!session.report[0].startsWith("bad log")) {
+  if (verdict.is !== "bad log") {
     return null;
   }
-  const code = session.report[0].split(" ")[2];
-  const violation = { lines: session.report.slice(2) };
+  const facts = session.said.slice(1).filter((it) => it.is !== "note" && it.is !== "notes");
   return element("section", "card",
-    element("h2", "", `${code} ${session.report[1]} `, source("lspcheck")),
+    element("h2", "", `${verdict.code} ${verdict.text} `, source("lspcheck")),
     element("p", "", "No event before this record breaks a rule. What follows is not shown."),
-    explanation(violation), aboutRule(code));
+    explanation(facts), aboutRule(verdict.code));
 }
 
 function firstViolation() {
   const violation = session.violations[0];
-  return !violation || session.report[0].startsWith("bad") ? null :
+  return !violation || verdict.is !== "no" ? null :
     element("section", "card first", violationPart(violation));
 }
 

@@ -123,8 +123,8 @@ function nameOf(row) {
 const suspectEvents = new Set();
 const equalEvents = new Set();
 for (const violation of session.violations) {
-  linesWith(violation, "suspect").forEach((values) => suspectEvents.add(Number(values[2])));
-  linesWith(violation, "equal").forEach((values) => equalEvents.add(Number(values[2])));
+  factsOf(violation, "suspect").forEach((it) => suspectEvents.add(it.event));
+  factsOf(violation, "equal").forEach((it) => equalEvents.add(it.event));
 }
 
 function tagsOf(row) {
@@ -183,8 +183,7 @@ function badTag(text) {
 function endCell() {
   const last = session.violations.filter((it) => it.event > session.events);
   const said = last.map((it) => badTag(`${it.rule} ${it.text} (${it.who})`));
-  const isBad = session.ending[0].startsWith("bad log");
-  const badLog = isBad ? badTag(session.ending.slice(0, 2).join(" ")) : null;
+  const badLog = damage ? badTag(`${placeOfDamage()} ${damage.text}`) : null;
   return element("div", "wide", element("span", "quiet", "End of the log"), ...said,
     badLog, session.exit.length ? element("span", "", visibleText(endOfServer())) : null);
 }

@@ -1,27 +1,26 @@
-// The lines of `lspcheck explain` in words. A line that is not known here is shown as it is.
-
-const TOKEN = /"(?:[^"\\]|\\.)*"|\S+/g;
-
-// A line as its first word, its values with JSON texts decoded, and its values as they are.
-function wordsOf(line) {
-  const [word, ...raw] = line.match(TOKEN) ?? [""];
-  return [word, raw.map((value) => (value.startsWith('"') ? JSON.parse(value) : value)), raw];
-}
+// The objects of `lspcheck explain` in words. One that is not known here is shown as it is.
 
 function shownText(text) {
   return element("code", "shown-text", visibleText(text, true));
 }
 
-// `event 44 editor 28` as a link.
-function shownEvent(values) {
-  const [, event, side, number] = values;
+function shownJson(value) {
+  return shownText(JSON.stringify(value));
+}
+
+// The event that an object names, as a link.
+function shownEvent({ event, side, number }) {
   const whose = side === "snapshot" ? `snapshot ${number}` : `the ${side}’s message ${number}`;
-  return [eventLink(Number(event)), ` (${whose})`];
+  return [eventLink(event), ` (${whose})`];
 }
 
 // A position. The protocol counts lines from 0; on the page they are counted from 1, as in editors.
 function shownPlace(line, column) {
-  return `line ${Number(line) + 1}, column ${column}`;
+  return `line ${line + 1}, column ${column}`;
+}
+
+function inUnitsOf(names) {
+  return names.join(" or ").toUpperCase();
 }
 
 const PHASES = {
@@ -40,34 +39,30 @@ const FAULTS = {
   outside: "neither side’s: the session goes beyond what lspcheck follows",
 };
 
-function shownChange(values) {
-  const [which, ...range] = values;
-  if (range[0] === "whole") {
+function shownChange({ which, whole, line, column, end_line: endLine, end_column: endColumn }) {
+  if (whole) {
     return [`change ${which} of the message replaces the whole text`];
   }
-  const [line, column, endLine, endColumn] = range;
-  const start = shownPlace(line, column);
-  const isEmpty = line === endLine && column === endColumn;
+  const start = shownPlace(line, column), isEmpty = line === endLine && column === endColumn;
   const words = isEmpty ? `at ${start}` : `from ${start} to ${shownPlace(endLine, endColumn)}`;
   return [`change ${which} of the message, ${words}`];
 }
 
-function shownPart(values) {
-  const [text, , before, after] = values;
+function shownPart({ text, cut_before: before, cut_after: after }) {
   const said = [shownText(text)];
-  if (values[1] === "cut") {
+  if (before !== undefined) {
     said.push(` (${before} characters before it and ${after} after it are left out)`);
   }
   return said;
 }
 
 function shownCode(code) {
-  return code === "end" ? "the end of the text" : code;
+  return code ?? "the end of the text";
 }
 
 const LINE_ENDS = { "\n": "LF", "\r\n": "CR LF", "\r": "CR" };
 
-function shownEnds([kind, from, to]) {
+function shownEnds({ kind, from, to }) {
   if (kind === "converted") {
     return [`nothing else differs: each is ${LINE_ENDS[from]} by the messages, and `
       + `${LINE_ENDS[to]} in the other text`];
@@ -81,149 +76,153 @@ const SUSPECTS = {
   1: "one message made the texts differ, unless a change was never sent",
 };
 
-// For each word: a label, and what is shown for the values of its line.
-const LINES = {
-  begins: ["It begins", ([text]) => [shownText(text)]],
-  breaks: ["JSON until", ([count]) => [`byte ${count} of the content`]],
-  before: ["Before it", ([text]) => [shownText(text)]],
-  after: ["After it", ([text]) => [shownText(text)]],
-  member: ["Member", ([text]) => [shownText(text), text === "" ? " (the params themselves)" : ""]],
-  uri: ["Document", ([uri]) => [
-    element("strong", "", visibleText(baseName(uri))), " ", shownText(uri),
+function shownOffer({ names, more }) {
+  if (names.length === 0) {
+    return ["no encoding: UTF-16 is meant"];
+  }
+  const shown = names.flatMap((name, at) => [at ? ", " : "", shownText(name)]);
+  return more === undefined ? shown : [...shown, ` and ${more} more`];
+}
+
+// For each kind of object: a label, and what is shown for it.
+const FACTS = {
+  __proto__: null,
+  begins: ["It begins", (it) => [shownText(it.text)]],
+  breaks: ["JSON until", (it) => [`byte ${it.count} of the content`]],
+  before: ["Before it", (it) => [shownText(it.text)]],
+  after: ["After it", (it) => [shownText(it.text)]],
+  member: ["Member", (it) => [
+    shownText(it.pointer), it.pointer === "" ? " (the params themselves)" : "",
   ]],
-  held: ["Held", ([version, ...by]) => [`version ${version}, set by `, ...shownEvent(by)]],
-  sent: ["This message", ([version]) => [`sets version ${version}`]],
-  same: ["The same", (by) => ["changes were already made by ", ...shownEvent(by)]],
-  precedes: ["Belongs before", ([version, ...by]) => [
-    ...shownEvent(by), `, which sets version ${version}`,
+  uri: ["Document", (it) => [
+    element("strong", "", visibleText(baseName(it.uri))), " ", shownText(it.uri),
   ]],
-  version: ["Version", ([version]) => [`the snapshot is of version ${version}`]],
-  changes: ["Changes", ([count]) => [`${count} in this message`]],
-  sync: ["Agreed", ([kind]) => [`synchronisation “${kind}”`]],
-  encoding: ["Columns", ([name]) => [`are counted in units of ${name.toUpperCase()}`]],
+  held: ["Held", (it) => [`version ${it.version}, set by `, ...shownEvent(it)]],
+  sent: ["This message", (it) => [`sets version ${it.version}`]],
+  same: ["The same", (it) => ["changes were already made by ", ...shownEvent(it)]],
+  precedes: ["Belongs before", (it) => [...shownEvent(it), `, which sets version ${it.version}`]],
+  version: ["Version", (it) => [`the snapshot is of version ${it.version}`]],
+  changes: ["Changes", (it) => [`${it.count} in this message`]],
+  sync: ["Agreed", (it) => [`synchronisation “${it.kind}”`]],
+  encoding: ["Columns", (it) => [`are counted in units of ${it.name.toUpperCase()}`]],
   change: ["Edit", shownChange],
-  length: ["That line", ([units]) => [`is ${units} units long, without its line end`]],
-  inside: ["Inside", ([text]) => ["the column falls into the character ", shownText(text)]],
-  fits: ["It would fit", (names) => [
-    `if columns were counted in ${names.join(" or ").toUpperCase()}`,
+  length: ["That line", (it) => [`is ${it.count} units long, without its line end`]],
+  inside: ["Inside", (it) => ["the column falls into the character ", shownText(it.text)]],
+  fits: ["It would fit", (it) => [`if columns were counted in ${inUnitsOf(it.names)}`]],
+  "at-once": ["It would fit", (it) => [
+    `if the ranges of version ${it.version} were all taken in the text before it: `,
+    ...shownEvent(it),
   ]],
-  "at-once": ["It would fit", ([version, ...by]) => [
-    `if the ranges of version ${version} were all taken in the text before it: `, ...shownEvent(by),
+  exchanged: ["It would fit", (it) => [
+    `if version ${it.version} came after the next one: `, ...shownEvent(it),
   ]],
-  exchanged: ["It would fit", ([version, ...by]) => [
-    `if version ${version} came after the next one: `, ...shownEvent(by),
+  without: ["It would fit", (it) => [
+    `if version ${it.version} were left out: `, ...shownEvent(it),
   ]],
-  without: ["It would fit", ([version, ...by]) => [
-    `if version ${version} were left out: `, ...shownEvent(by),
-  ]],
-  bytes: ["Size", ([count]) => [`the text would have ${count} bytes`]],
-  limit: ["Limit", ([count]) => [`${count} bytes`]],
-  at: ["First difference", ([line, column]) => [shownPlace(line, column)]],
+  bytes: ["Size", (it) => [`the text would have ${it.count} bytes`]],
+  limit: ["Limit", (it) => [`${it.count} bytes`]],
+  at: ["First difference", (it) => [shownPlace(it.line, it.column)]],
   "by-messages": ["By the messages", shownPart],
   "in-editor": ["In the editor", shownPart],
   saved: ["Saved", shownPart],
-  codes: ["Characters", ([sent, other]) => [
-    `by the messages ${shownCode(sent)}, in the other text ${shownCode(other)}`,
+  codes: ["Characters", (it) => [
+    `by the messages ${shownCode(it.by_messages)}, in the other text ${shownCode(it.in_editor)}`,
   ]],
   ends: ["Line ends", shownEnds],
   "line-ends": ["Option", () => ["--ignore-line-ends: then these texts are the same"]],
-  kept: ["Kept versions", (versions) => [versions.join(", ")]],
-  snapshot: ["Differs from", (by) => shownEvent(by)],
-  equal: ["Last equal", ([version, ...by]) => [`at version ${version}: `, ...shownEvent(by)]],
-  suspects: ["Suspects", ([number]) => [
-    SUSPECTS[number] ?? `${number} messages may have made the texts differ`,
+  kept: ["Kept versions", (it) => [it.versions.join(", ")]],
+  snapshot: ["Differs from", shownEvent],
+  equal: ["Last equal", (it) => [`at version ${it.version}: `, ...shownEvent(it)]],
+  suspects: ["Suspects", (it) => [
+    SUSPECTS[it.count] ?? `${it.count} messages may have made the texts differ`,
   ]],
-  closed: ["Closed", (by) => ["by ", ...shownEvent(by)]],
+  closed: ["Closed", (it) => ["by ", ...shownEvent(it)]],
   opened: ["Opened", () => ["never"]],
-  "saved-as": ["Saved", (by) => ["under this name by ", ...shownEvent(by)]],
-  similar: ["Similar", ([uri, ...by]) => [shownText(uri), " is open, by ", ...shownEvent(by)]],
-  id: ["Id", (_, [id]) => [shownText(id)]],
-  asked: ["Still open", (by) => ["the request with this id: ", ...shownEvent(by)]],
-  open: ["Meant perhaps", ([, ...by], [id]) => [`the open request ${id}: `, ...shownEvent(by)]],
-  answered: ["Answered", (by) => ["already by ", ...shownEvent(by)]],
-  request: ["Unanswered", ([, method, ...by], [id]) => [
-    shownText(method), ` ${id}, `, ...shownEvent(by),
+  "saved-as": ["Saved", (it) => ["under this name by ", ...shownEvent(it)]],
+  similar: ["Similar", (it) => [shownText(it.uri), " is open, by ", ...shownEvent(it)]],
+  id: ["Id", (it) => [shownJson(it.id)]],
+  asked: ["Still open", (it) => ["the request with this id: ", ...shownEvent(it)]],
+  open: ["Meant perhaps", (it) => [
+    "the open request ", shownJson(it.id), ": ", ...shownEvent(it),
   ]],
-  token: ["Token", (_, [id]) => [shownText(id)]],
-  expected: ["Expected", (_, [id]) => ["the token of initialize, ", shownText(id)]],
-  phase: ["State", ([name]) => [PHASES[name] ?? name]],
-  since: ["Since", (by) => shownEvent(by)],
-  offered: ["Offered", (names) => (names.length === 0 ? ["no encoding: UTF-16 is meant"] :
-    names.flatMap((name, at) => [at ? ", " : "", shownText(name)]))],
-  picked: ["Picked", ([name]) => [shownText(name)]],
-  registers: ["Registers", ([method]) => [shownText(method)]],
-  record: ["Record", ([number]) => [`number ${number} of the log`]],
-  byte: ["Place", ([count]) => [`${count} bytes into the log`]],
-  found: ["The line there", ([text]) => [shownText(text)]],
-  usually: ["Usually", ([who]) => [`the fault is ${FAULTS[who] ?? who}`]],
+  answered: ["Answered", (it) => ["already by ", ...shownEvent(it)]],
+  request: ["Unanswered", (it) => [
+    shownText(it.method), " ", shownJson(it.id), ", ", ...shownEvent(it),
+  ]],
+  token: ["Token", (it) => [shownJson(it.id)]],
+  expected: ["Expected", (it) => ["the token of initialize, ", shownJson(it.id)]],
+  phase: ["State", (it) => [PHASES[it.name] ?? it.name]],
+  since: ["Since", shownEvent],
+  offered: ["Offered", shownOffer],
+  picked: ["Picked", (it) => [shownText(it.name)]],
+  registers: ["Registers", (it) => [shownText(it.method)]],
+  record: ["Record", (it) => [`number ${it.count} of the log`]],
+  byte: ["Place", (it) => [`${it.count} bytes into the log`]],
+  found: ["The line there", (it) => [shownText(it.text)]],
+  usually: ["Usually", (it) => [`the fault is ${FAULTS[it.who] ?? it.who}`]],
 };
 
-// The line in words: [label, nodes], or null if it says nothing that is not shown elsewhere.
-function inWords(line) {
-  const [word, values, raw] = wordsOf(line);
-  if (word === "event" || word === "end" || word === "suspect") {
-    return null;
-  }
-  const known = Object.hasOwn(LINES, word) ? LINES[word] : null;
+// What says nothing that is not shown elsewhere.
+const ELSEWHERE = ["event", "end", "suspect"];
+
+// An object in words: [label, nodes].
+function inWords(it) {
   try {
-    return known ? [known[0], known[1](values, raw)] : ["", [shownText(line)]];
+    const [label, shown] = FACTS[it.is];
+    return [label, shown(it)];
   } catch {
-    return ["", [shownText(line)]];
+    return ["", [shownJson(it)]];
   }
 }
 
-// A note that begins with a method or a URI, and ends with an event.
+// A note on a method or on a document, and the event where it applies.
 function noteOn(words) {
-  return ([text, ...by]) => [shownText(text), ` ${words}: `, ...shownEvent(by)];
+  return (it) => [shownText(it.method ?? it.uri), ` ${words}: `, ...shownEvent(it)];
 }
 
 // A note on a change of a didChange whose position is past the end of its line, or of the text.
-function pastEnd([line, column, what, count, ...by]) {
-  const end = what === "lines" ? `the text has ${count} lines` :
-    `that line is ${count} units long, without its line end`;
-  const place = shownPlace(line, column);
-  return [...shownEvent(by), ` changes a range at ${place}, past the end: ${end}`];
+function pastEnd(it) {
+  const place = shownPlace(it.line, it.column), end = it.lines === undefined ?
+    `that line is ${it.length} units long, without its line end` : `the text has ${it.lines} lines`;
+  return [...shownEvent(it), ` changes a range at ${place}, past the end: ${end}`];
 }
 
 // A note on a change whose rangeLength is not the length of its range.
-function wrongLength([sent, , length, ...rest]) {
-  const at = rest.indexOf("event");
-  const fits = rest.slice(1, at).map((name) => name.toUpperCase());
-  return [...shownEvent(rest.slice(at)),
-    ` has a rangeLength of ${sent}, and its range is ${length} units long`,
-    fits.length === 0 ? "" : `; in units of ${fits.join(" or ")} it is ${sent} long`];
+function wrongLength(it) {
+  return [...shownEvent(it),
+    ` has a rangeLength of ${it.sent}, and its range is ${it.length} units long`,
+    it.fits === undefined ? "" : `; in units of ${inUnitsOf(it.fits)} it is ${it.sent} long`];
 }
 
 const NOTES = {
+  __proto__: null,
   "as-notification": noteOn("is a request in LSP 3.17, and was sent as a notification"),
   "as-request": noteOn("is a notification in LSP 3.17, and was sent as a request"),
   "by-editor": noteOn("is sent only by servers in LSP 3.17, and the editor sent it"),
   "by-server": noteOn("is sent only by editors in LSP 3.17, and the server sent it"),
-  "exit-without-shutdown": (by) => ["The editor sent exit without shutdown: ", ...shownEvent(by)],
-  "offset-encoding": ([name]) => ["The server names ", shownText(name),
+  "exit-without-shutdown": (it) => ["The editor sent exit without shutdown: ", ...shownEvent(it)],
+  "offset-encoding": (it) => ["The server names ", shownText(it.name),
     " in the older member offsetEncoding: it may count columns in it"],
   renamed: noteOn("was renamed, and is still opened or changed under this name"),
   "nothing-compared": () => ["No snapshot was compared: yes says little about the texts"],
   "past-end": pastEnd,
   "range-length": wrongLength,
-  refused: ([code, uri, ...by]) => [
-    "A request about ", shownText(uri), ", which is open, was refused: ", ...shownEvent(by),
-    ` is the error ${code} (InvalidParams)`,
+  refused: (it) => [
+    "A request about ", shownText(it.uri), ", which is open, was refused: ", ...shownEvent(it),
+    ` is the error ${it.code} (InvalidParams)`,
   ],
-  similar: ([uri, open, ...by]) => [
-    ...shownEvent(by), " names ", shownText(uri), ", which is not open; ", shownText(open),
+  similar: (it) => [
+    ...shownEvent(it), " names ", shownText(it.uri), ", which is not open; ", shownText(it.open),
     " is, and is spelled in another way",
   ],
-  "no-snapshot": ([uri]) => [shownText(uri), " was changed, and no snapshot of it was compared"],
+  "no-snapshot": (it) => [shownText(it.uri), " was changed, and no snapshot of it was compared"],
 };
 
-// A note of `explain` in words.
-function noteInWords(line) {
-  const [name, ...values] = wordsOf(line)[1];
-  const known = Object.hasOwn(NOTES, name) ? NOTES[name] : null;
+// A note in words.
+function noteInWords(it) {
   try {
-    return known ? known(values) : [shownText(line)];
+    return NOTES[it.note](it);
   } catch {
-    return [shownText(line)];
+    return [shownJson(it)];
   }
 }

@@ -25,6 +25,7 @@ import programs  # noqa: E402
 import truth  # noqa: E402
 from processes import quoted  # noqa: E402
 from data import EXAMPLES, lines_of, output, written  # noqa: E402
+from expected import READ  # noqa: E402
 from window import THEMES, WIDTHS, Page, make, start  # noqa: E402
 
 FAULTS = (AssertionError, LookupError, TypeError, ValueError, OSError, subprocess.SubprocessError,
@@ -215,21 +216,29 @@ def stays_small(page, events):
     assert 0 < top < 900, top
 
 
-def shows_lines_that_are_not_known(page):
-    """What a later lspcheck adds to an explanation is shown as it is."""
+LATER = '{"is":"other","count":5,"text":"a<b>","event":3,"side":"editor","number":2}'
+
+
+def shows_objects_that_are_not_known(page):
+    """What a later lspcheck adds to an explanation is shown as it is, in words too."""
     page.open()
-    assert 'other 5 "a<b>" event 3 editor 2' in page.text(".first .facts")
-    assert "note other" in page.text("#overview")
-    assert not (found := page.log()), found
+    facts = page.run(READ + "return plain(document.querySelector('.first .facts'))")
+    assert LATER in facts, facts
+    notes = page.run(READ + "return [...document.querySelectorAll('#overview li')].map(plain)")
+    assert '{"is":"note","note":"constructor","new":[1]}' in notes, notes
+    page.run("document.querySelector('.why .folded').open = true")
+    page.wait("return document.querySelector('.why .raw') !== null")
+    assert LATER in page.run(READ + "return plain(document.querySelector('.why .raw'))").split("\n")
+    assert page.all('.first a[href="#event-3"]') == [] and not (found := page.log()), found
 
 
 def later(program, place):
-    """A program that adds lines to explanations."""
+    """A program that adds objects to explanations, and a member to each."""
     path = place / "later"
-    added = 'other 5 "a<b>" event 3 editor 2'
+    note = '{"is":"note","note":"constructor","new":[1]}'
     path.write_text(f"""#!/bin/sh
 [ "$1" = explain ] || exec {quoted(program)} "$@"
-{quoted(program)} "$@" | sed '/^usually/{{p;s/.*/{added}/;p;s/.*/note other/}}'""")
+{quoted(program)} "$@" | sed '/"is":"usually"/{{p;s/.*/{LATER}/;p;s/.*/{note}/;b}};s/}}$/,"more":7}}/'""")
     path.chmod(0o755)
     return path
 
@@ -254,7 +263,7 @@ def tests_of(driver, program, place):
     long = written(place, "long.log", logs.long(events, difference=events // 5 * 3 + 1))
     yield "stays_small", lambda: stays_small(window(long), events)
     known = window(EXAMPLES[-1], program=later(program, place))
-    yield "shows_lines_that_are_not_known", lambda: shows_lines_that_are_not_known(known)
+    yield "shows_objects_that_are_not_known", lambda: shows_objects_that_are_not_known(known)
     yield from hands.tests_of(window, program, place)
     yield from truth.tests_of(window, program, place)
 

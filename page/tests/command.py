@@ -218,8 +218,8 @@ def says_what_is_wrong_with_the_program(program, place):
     ends = script(place / "ends", f'[ "$1" = show ] && {{ echo "lspcheck: out of memory" >&2; exit 4; }}\nexec {quoted(program)} "$@"')
     answers(run(EXAMPLE, *words, "--program", ends), 4, "lspcheck show: lspcheck: out of memory")
     dies = script(place / "dies", f'[ "$1" = explain ] && kill -9 $$\nexec {quoted(program)} "$@"')
-    answers(run(EXAMPLE, *words, "--program", dies), 1, "it ended with status -9")
-    other = script(place / "other", f'[ "$1" = show ] && exec {quoted(program)} show --all --long {quoted(TOP / "examples/clangd-session.log")}\nexec {quoted(program)} "$@"')
+    answers(run(EXAMPLE, *words, "--program", dies), 1, "lspcheck explain: it was ended by SIGKILL")
+    other = script(place / "other", f'[ "$1" = show ] && exec {quoted(program)} show --all --long --json {quoted(TOP / "examples/clangd-session.log")}\nexec {quoted(program)} "$@"')
     answers(run(EXAMPLE, *words, "--program", other), 1, "differ")
     log = place / "x.log"
     shutil.copy(EXAMPLE, log)
@@ -229,6 +229,35 @@ def says_what_is_wrong_with_the_program(program, place):
     done = run(EXAMPLE, *words, "--program", fails)
     assert done.stderr == f"compiling\nlspcheck-page: {fails} --version: it ended with status 5\n", done
     assert done.returncode == 1 and not (place / "x.html").exists()
+
+
+def says_what_is_wrong_with_the_objects(program, place):
+    """A program that has no --json, and one whose objects are none: a line, and no page."""
+    words = ["-o", place / "x.html", "--program"]
+    older = script(place / "older", f"""for it; do [ "$it" = --json ] && {{ echo "lspcheck: error: unexpected argument '--json' found" >&2; echo >&2; echo usage >&2; exit 64; }}; done
+exec {quoted(program)} "$@\"""")
+    answers(run(EXAMPLE, *words, older), 1, "older: this lspcheck does not know 'explain --json'; it may be an older version")
+    no = '{"is":"no","rule":605,"who":"editor","number":31,"event":48,"follows":false,"text":"x"}'
+    for command, written, said in [
+        ("show", "1 editor request 1", "lspcheck show: it wrote a line that is not an object of --json: '1 editor request 1"),
+        ("show", '{"is":"request","event":1,', 'not an object of --json: \'{"is":"request","event":1,'),
+        ("show", "[1]", "not an object of --json: '[1]"),
+        ("show", '{"event":1}', "not an object of --json"),
+        ("show", "[" * 20000, "not an object of --json"),
+        ("show", r"\033[31m", "not an object of --json"),
+        ("show", "", "lspcheck show: what it wrote has no end"),
+        ("show", '{"is":"request","event":1,"side":"editor","id":1,"method":"initialize","number":1}', "what it wrote has no end"),
+        ("show", '{"is":"request","event":1,"side":"other","number":1}', "lspcheck show: it wrote an event without its members"),
+        ("show", '{"is":"request","event":1,"side":"editor"}\n{"is":"yes"}', "lspcheck show: it wrote an event without its members"),
+        ("explain", "", "lspcheck explain: it wrote nothing"),
+        ("explain", "no 605 editor 31 event 48", "lspcheck explain: it wrote a line that is not an object of --json: 'no 605 editor 31"),
+        ("explain --all", no.replace('"rule":605,', ""), "lspcheck explain: it wrote a violation without its members"),
+    ]:
+        (place / "written").write_text(f"{written}\n" if written else "")
+        other = script(place / "other", f'case "$* " in "{command} --"*) ;; *) exec {quoted(program)} "$@" ;; esac\n'
+                       f'cat {quoted(place / "written")}')
+        answers(run(EXAMPLE, *words, other), 1, said)
+        assert not (place / "x.html").exists(), command
 
 
 def passes_through_what_the_program_says_first(program, place):
@@ -287,7 +316,7 @@ exit 9""")
     done = run(EXAMPLE, "--program", waits, "-o", place / "x.html")
     started = (place / "started").read_text().split("\n")[:-1]
     assert done.returncode == 0, done.stderr
-    assert sorted(started) == ["explain --all --quiet", "explain --quiet", "show --all --long --quiet"], started
+    assert sorted(started) == ["explain --all --json --quiet", "explain --json --quiet", "show --all --long --json --quiet"], started
 
 
 def shows_progress_on_a_terminal(program, place):
@@ -373,6 +402,7 @@ TESTS = [
     says_what_is_wrong_with_files,
     says_what_is_wrong_with_words,
     says_what_is_wrong_with_the_program,
+    says_what_is_wrong_with_the_objects,
     passes_through_what_the_program_says_first,
     leaves_no_file_when_it_is_stopped,
     ends_what_the_program_started,

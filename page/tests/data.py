@@ -48,8 +48,8 @@ def line_of(index, row):
 
 def has_what_was_written(program, place):
     """Each event, its content, the violations, and the lines of `explain`."""
-    made = [written(place, "joined.log", logs.joined()), written(place, "hostile.log", logs.hostile())]
-    for log in [*EXAMPLES, *made]:
+    made = {**logs.telling(), "hostile.log": logs.hostile()}
+    for log in [*EXAMPLES, *(written(place, name, content) for name, content in made.items())]:
         index, contents = logs.data_of(page_of(program, log))
         shown = lines_of(program, "show", "--all", "--long", log)
         lines = {int(line.split()[0]): line for line in shown if line[0].isdigit()}
@@ -69,6 +69,7 @@ def has_what_was_written(program, place):
         explained = output(program, "explain", "--all", log).decode()
         for it in index["violations"]:
             assert ("\n".join(it["lines"]) in explained) and bool(it["lines"]) != it["follows"]
+            assert len(it["lines"]) == (len(it["facts"]) + 2 if it["lines"] else 0), it
             assert index["rules"][str(it["rule"])]["text"] == it["text"]
 
 

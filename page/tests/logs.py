@@ -175,6 +175,12 @@ def differs():
     return log + frame(b"S", notification("window/logMessage", {"type": 3, "message": "done"}))
 
 
+def longer():
+    """The editor's text continues where that of the messages ends."""
+    uri = "file:///longer.c"
+    return handshake() + frame(b"E", opened(uri, 1, "a\nb\n")) + snapshot(uri, 1, "a\nb\nc")
+
+
 def saves():
     """A saved text that differs from what the messages say."""
     uri = "file:///s.c"
@@ -278,6 +284,7 @@ def telling():
     """Logs that show what the examples do not, by name."""
     return {
         "differs.log": differs(),
+        "longer.log": longer(),
         "saves.log": saves(),
         "unanswered.log": unanswered(),
         "refused.log": refused(),

@@ -10,6 +10,7 @@ from data import EXAMPLES, output, page_of, written
 from processes import SECONDS
 
 HERE = Path(__file__).resolve().parent
+SCHEMA = HERE.parent.parent / "docs/report.schema.json"
 
 
 def node(script, given):
@@ -47,4 +48,17 @@ def differences_lead_from_one_text_to_the_other(program, place):
     assert node("differences.js", None) == "good"
 
 
-TESTS = [texts_are_those_of_lspcheck, texts_after_a_gap, differences_lead_from_one_text_to_the_other]
+# The objects of other commands, of a verdict, and of the count of notes.
+REPORTED = {"yes", "no", "bad log", "read fault", "out of memory", "messages", "snapshots", "document",
+            "offences", "notification", "result", "error", "note", "notes"}
+
+
+def has_words_for_each_form(program, place):
+    """Of the forms in report.schema.json, each that explains something, and each note."""
+    forms = [it["properties"] for it in json.loads(SCHEMA.read_text())["anyOf"]]
+    found = node("forms.js", None)
+    assert set(found["kinds"]) == {it["is"]["const"] for it in forms} - REPORTED, found["kinds"]
+    assert set(found["notes"]) == {it["note"]["const"] for it in forms if "note" in it}, found["notes"]
+
+
+TESTS = [has_words_for_each_form, texts_are_those_of_lspcheck, texts_after_a_gap, differences_lead_from_one_text_to_the_other]

@@ -46,12 +46,19 @@ def has_form(members, form):
         is_valid(members[key], schema) for key, schema in form["properties"].items())
 
 
+def quoted(value):
+    """A value as JSON text."""
+    return json.dumps(value, ensure_ascii=False)
+
+
 def words_of(members, key, is_quoted):
-    """The words of a line for the value of a key."""
+    """The words of a line for the value of a key. A text that is the word for null gets quotes, which
+    the line does not have: it should have been null."""
     values = members[key] if isinstance(members[key], list) else [members[key]]
     if is_quoted or key == "id":
-        return [json.dumps(value, ensure_ascii=False) for value in values]
-    return [NULLS.get(members["is"], "-") if value is None else str(value) for value in values]
+        return [quoted(value) for value in values]
+    null = NULLS.get(members["is"], "-")
+    return [null if value is None else quoted(value) if value == null else str(value) for value in values]
 
 
 def line_of(members, form):

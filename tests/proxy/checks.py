@@ -206,8 +206,8 @@ def from_vscode(make, lost):
     return trial
 
 
-def without_program(script):
-    """A test with another program instead of lspcheck, or none."""
+def without_program(script, said):
+    """A test with another program instead of lspcheck, or none, and why nothing is reported."""
 
     def trial(place, _):
         other = place / "other"
@@ -229,12 +229,45 @@ def without_program(script):
                 os.kill(int(number), signal.SIGKILL)
         yield "the recorder ends", editor.wait() == 0, editor.words()
         yield "the log is whole", editor.log().endswith(b'"exit"}\n'), editor.log()[-100:]
-        wanted = "" if script else "proxy: lspcheck: No such file or directory; "
-        is_said = editor.words().startswith(wanted) and editor.words().count("\n") == (not script)
-        yield "it is said once", is_said, editor.words()
+        yield "it is said once", editor.words() == f"proxy: lspcheck: {said}\n", editor.words()
 
     return trial
 
+
+# What lspcheck writes about a violation, with --json and without.
+OBJECTS = """{"is":"no","rule":404,"who":"editor","number":5,"event":10,"follows":false,"text":"x"}
+{"is":"event","event":10,"side":"editor","number":5,"kind":"notification","method":"initialized"}
+{"is":"later","than":"this proxy"}
+{"is":"usually","who":"editor"}
+"""
+LINES = """no 404 editor 5 event 10
+x
+event 10 editor 5 notification "initialized"
+{"is":"later","than":"this proxy"}
+usually editor
+"""
+
+
+def tells_pieces(place, _):
+    """An explanation that comes in pieces, cut anywhere, is told as a whole; what is cut off by the
+    end is not."""
+    pieces = [OBJECTS[at:at + 40] for at in range(0, len(OBJECTS), 40)]
+    written = "".join(f"printf %s '{piece}'; sleep 0.2\n" for piece in [*pieces, OBJECTS[:30]])
+    other = place / "other"
+    other.write_text(
+        f"#!/bin/sh\ncase $* in *--ignore-line-ends*)\n{written}: > \"$0.done\";; esac\n"
+        "cat > /dev/null\nexit 1\n"
+    )
+    other.chmod(0o755)
+    editor = checked(place, other, "--check")
+    until((place / "bin/lspcheck.done").exists)
+    yield "the session", editor.quit() == 0, editor.words()
+    yield "in words", editor.words() == LINES, editor.words()
+    copy, = editor.logs.glob("*.explain")
+    yield "in the file", copy.read_text() == LINES, copy.read_text()
+
+
+STOPPED = "violations may not be reported from now on"
 
 TESTS = {
     "vscode: a file": from_vscode(lambda path: path.write_bytes(b""), None),
@@ -246,9 +279,29 @@ TESTS = {
     "check: no violation": tells_nothing,
     "check: a session": keeps_rules,
     "check: a lost change": finds_lost_change,
-    "check: no lspcheck": without_program(""),
-    "check: lspcheck ends": without_program("#!/bin/sh\nexit 3\n"),
+    "check: in pieces": tells_pieces,
+    "check: no lspcheck": without_program(
+        "", "No such file or directory; the session is recorded but not checked"
+    ),
+    "check: lspcheck ends": without_program(
+        "#!/bin/sh\nexit 3\n", f"it ended with status 3; {STOPPED}"
+    ),
+    "check: lspcheck says why": without_program(
+        "#!/bin/sh\necho lspcheck: out of memory >&2\nexit 4\n", f"out of memory; {STOPPED}"
+    ),
+    "check: lspcheck is killed": without_program(
+        "#!/bin/sh\nkill -9 $$\n", f"it was ended by SIGKILL; {STOPPED}"
+    ),
+    "check: an older lspcheck": without_program(
+        "#!/bin/sh\necho \"lspcheck: error: unexpected argument '--json' found\" >&2\nexit 64\n",
+        f"it doesn't know --json or --notes; it may be an older version; {STOPPED}",
+    ),
+    "check: no object": without_program(
+        "#!/bin/sh\necho no 404 editor 5 event 10\nexec cat > /dev/null\n",
+        f"it wrote a line that is not an object of --json: 'no 404 editor 5 event 10'; {STOPPED}",
+    ),
     "check: lspcheck doesn't read": without_program(
-        '#!/bin/sh\necho $$ >> "$0.pids"\nexec sleep 6000\n'
+        '#!/bin/sh\necho $$ >> "$0.pids"\nexec sleep 6000\n',
+        f"it was ended by SIGKILL; {STOPPED}",
     ),
 }

@@ -82,15 +82,19 @@ abbrev pub check : Shape
 check = command (codes "check")
     (check_options.rules ++ ignore_line_ends ∷ json ∷ quiet ∷ files ∷ [])
 
--- `explain` with the first of its options alone
+-- `explain` with the options that say what is explained
+abbrev pub explained_options : Shape
+explained_options = command (codes "explain")
+    (flag (codes "complete") ∷ flag (codes "all") ∷ flag (codes "notes") ∷ [])
+
+-- the same with those on the two texts
 abbrev pub explain_options : Shape
 explain_options = command (codes "explain")
-    (flag (codes "complete") ∷ flag (codes "all") ∷ flag (codes "notes") ∷ ignore_line_ends
-    ∷ flag (codes "by-messages") ∷ [])
+    (explained_options.rules ++ ignore_line_ends ∷ flag (codes "by-messages")
+    ∷ flag (codes "in-editor") ∷ [])
 
 abbrev pub explain : Shape
-explain = command (codes "explain")
-    (explain_options.rules ++ flag (codes "in-editor") ∷ json ∷ quiet ∷ file ∷ [])
+explain = command (codes "explain") (explain_options.rules ++ json ∷ quiet ∷ file ∷ [])
 
 -- `show` with its own options alone
 abbrev pub show_options : Shape

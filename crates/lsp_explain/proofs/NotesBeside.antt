@@ -1,12 +1,10 @@
 -- Without its notes, `explain --all --notes` says what `explain --all` does.
-use Rattle.std.proofs.Common.{◌≡◌, ◌⊎◌, ℕ, List, [], ◌∷◌, ◌++◌, inl, inr, refl}
+use Rattle.std.proofs.Common.{◌⊎◌, ℕ, List, [], ◌∷◌, ◌++◌, inl, inr, refl}
 use Rattle.lsp_docs.specs.Documents.{Terms}
-use Rattle.lsp_frame.specs.Bounds.{Bounds}
 use Rattle.lsp_replay.specs.Run.{EndsAfter, IsPassed, SaysAll, StopsIn}
 use Rattle.lsp_verdict.specs.Heard.{Heard, Rests}
 use Rattle.lsp_verdict.specs.Outcome.{log_terms}
 use Rattle.lsp_verdict.specs.declared.completeness.Completeness.{Completeness}
-use Rattle.lsp_verdict.specs.declared.outcome.Outcome.{Outcome}
 use Rattle.lsp_explain.specs.AllNotes.{NotesAreBeside, noted_run}
 use Rattle.lsp_explain.specs.ExplainRuns.{all_run}
 

@@ -4,7 +4,8 @@ ghost use Rattle.clap.specs.Words.{AddsSubcommand, app_of, shape_of};
 ghost use Rattle.lsp_command.specs.CommandLine.{AreModes, IsArg, IsCommandLine, Modes, check};
 ghost use Rattle.lsp_command.specs.CommandLine.{check_options, event, text_options};
 ghost use Rattle.lsp_command.specs.CommandLine.{explain, file, files, flag, frames, mode, normal};
-ghost use Rattle.lsp_command.specs.CommandLine.{explain_options, ignore_line_ends, json};
+ghost use Rattle.lsp_command.specs.CommandLine.{explain_options, explained_options};
+ghost use Rattle.lsp_command.specs.CommandLine.{ignore_line_ends, json};
 ghost use Rattle.lsp_command.specs.CommandLine.{show_options};
 ghost use Rattle.lsp_command.specs.CommandLine.{number, program, quiet, redact, show, text, upgrade};
 ghost use Rattle.lsp_command.specs.CommandLine.{uri};
@@ -176,9 +177,9 @@ fn check<'a>(alloc: Global) -> Result<Command<'a>, AllocError>
         .arg(log_files(alloc))
 }
 
-/// The command with the first of its options.
-fn explain_options<'a>(alloc: Global) -> Result<Command<'a>, AllocError>
-    ensures { IfOk result (λ command. shape_of command ≡ explain_options) }
+/// The command with the options that say what is explained.
+fn explained_options<'a>(alloc: Global) -> Result<Command<'a>, AllocError>
+    ensures { IfOk result (λ command. shape_of command ≡ explained_options) }
 {
     Command::new(alloc, "explain")
         .about("Judges a recorded session and explains a no")
@@ -196,12 +197,24 @@ fn explain_options<'a>(alloc: Global) -> Result<Command<'a>, AllocError>
             alloc,
             "notes",
             "With --all: writes the notes too, each as soon as it is found",
-        ))?
+        ))
+}
+
+/// The same with those on the two texts.
+fn explain_options<'a>(alloc: Global) -> Result<Command<'a>, AllocError>
+    ensures { IfOk result (λ command. shape_of command ≡ explain_options) }
+{
+    explained_options(alloc)?
         .arg(ignore_line_ends(alloc))?
         .arg(flag(
             alloc,
             "by-messages",
             "Writes only the text that the messages produce (608, 702)",
+        ))?
+        .arg(flag(
+            alloc,
+            "in-editor",
+            "Writes only the editor's own text, saved or of a snapshot (608, 702)",
         ))
 }
 
@@ -209,11 +222,6 @@ fn explain<'a>(alloc: Global) -> Result<Command<'a>, AllocError>
     ensures { IfOk result (λ command. shape_of command ≡ explain) }
 {
     explain_options(alloc)?
-        .arg(flag(
-            alloc,
-            "in-editor",
-            "Writes only the editor's own text, saved or of a snapshot (608, 702)",
-        ))?
         .arg(json(alloc))?
         .arg(quiet(alloc))?
         .arg(log_file(alloc))

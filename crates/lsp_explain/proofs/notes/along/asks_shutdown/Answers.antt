@@ -4,7 +4,6 @@ use Rattle.std.proofs.Common.{Option, ◌∙◌, ap, subst, sym}
 use Rattle.lsp_replay.specs.Telling.{MaySpeak}
 use Rattle.lsp_rpc.specs.declared.act.Spoken.{Spoken}
 use Rattle.lsp_session.specs.Sent.{is_shutdown}
-use Rattle.lsp_verdict.specs.Event.{Event}
 use Rattle.lsp_explain.specs.AllNotes as spec
 use Rattle.lsp_explain.proofs.NotedSteps.{asks_none}
 use Rattle.lsp_explain.proofs.notes.along.asks_shutdown.Goals as goal

@@ -1,11 +1,10 @@
 use Rattle.std.specs.Prelude.{drop, min}
-use Rattle.std.proofs.Common.{◌∙◌, ap}
+use Rattle.std.proofs.Common.{◌≡◌, ◌∙◌, ap, length, rules}
 use Rattle.std.proofs.lemmas.List.{drop_min}
 use Rattle.lsp_explain.proofs.notes.along.beyond.Goals as goal
 
 pub returns : goal.returns
 returns g c =
     let items = c.args.items.now in
-    c.split_at.ensures.back
-    ∙ ap (λ n. drop n items) (c.min.ensures ∙ ap (min c.args.count) c.len.ensures)
-    ∙ drop_min c.args.count items
+    let count : c.min.result ≡ min c.args.count (length items) = search rules in
+    c.split_at.ensures.back ∙ ap (λ n. drop n items) count ∙ drop_min c.args.count items

@@ -13,7 +13,7 @@ use Rattle.lsp_explain.proofs.notes.along.note_changes.Goals as goal
 pub returns-then-has : goal.returns-then-has
 returns-then-has c = λ terms before h found are behind seen.
     let said = option_map call_view c.args.seen.now.call in
-    let on = sym (ap (is_on_behind terms before) (sym seen.says))
+    let on = ap (is_on_behind terms before) (sym seen.says)
     ∙ sym (among_is terms c.args.behind.now before said behind)
     ∙ sym c.has.ensures ∙ c.if-has.true in
     subst (AreMisfits c.args.misfits.now)
@@ -22,20 +22,21 @@ returns-then-has c = λ terms before h found are behind seen.
 pub returns-in-Kept : goal.returns-in-Kept
 returns-in-Kept c = on_ok_weaker c.note_kept.result (λ noted terms before h found are behind seen.
     let said = option_map call_view c.args.seen.now.call in
-    let on = sym (ap (is_on_behind terms before) (sym seen.says))
+    let on = ap (is_on_behind terms before) (sym seen.says)
     ∙ sym (among_is terms c.args.behind.now before said behind)
     ∙ sym c.has.ensures ∙ c.if-has.false in
     let has = subst (HasFate terms before h) c.in-Kept.is seen.fate in
-    subst (λ l. AreMisfits _ (found ++ l)) (kept_is terms before h on has.0)
+    subst (λ l. AreMisfits c.note_kept.new.self (found ++ l)) (kept_is terms before h on has.0)
     (noted terms before h found are seen)) c.note_kept.ensures
 
 pub returns-in-Offends : goal.returns-in-Offends
 returns-in-Offends c =
     on_ok_weaker c.note_refuted.result (λ noted terms before h found are behind seen.
     let said = option_map call_view c.args.seen.now.call in
-    let on = sym (ap (is_on_behind terms before) (sym seen.says))
+    let on = ap (is_on_behind terms before) (sym seen.says)
     ∙ sym (among_is terms c.args.behind.now before said behind)
     ∙ sym c.has.ensures ∙ c.if-has.false in
     let has = subst (HasFate terms before h) c.in-Offends.is seen.fate in
-    subst (λ l. AreMisfits _ (found ++ l)) (refuted_is terms before h on c.in-Offends.rule has.0)
+    subst (λ l. AreMisfits c.note_refuted.new.self (found ++ l))
+    (refuted_is terms before h on c.in-Offends.rule has.0)
     (noted terms before h found are seen has.0)) c.note_refuted.ensures

@@ -13,7 +13,7 @@ returns-in_default c =
 
 pub returns : goal.returns
 returns c = on_ok_weaker c.add_uri.result (λ added.
-    subst (λ own. PutsBehind true own c.args.uris.now.entries _)
+    subst (λ own. PutsBehind true own c.args.uris.now.entries c.add_uri.new.uris.entries)
     (ap Some c.as_str.ensures.value ∙ sym (ap (option_map string_bytes) c.in-Some.is)
     ∙ c.in_ok-uri.ensures)
     (λ uri. put_one _ _ uri _ _ (added uri))) c.add_uri.ensures

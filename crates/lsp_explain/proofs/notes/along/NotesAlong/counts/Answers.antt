@@ -1,9 +1,8 @@
-use Rattle.std.specs.Prelude.{length, map, option_map}
+use Rattle.std.specs.Prelude.{length}
 use Rattle.std.proofs.Common.{◌∷◌, ◌∙◌, [], ap, sym}
 use Rattle.std.proofs.lemmas.List.{length-map}
 use Rattle.lsp_verdict.specs.Heard.{heard_events}
 use Rattle.lsp_explain.specs.AllNotes.{one}
-use Rattle.lsp_explain.specs.DocumentNotes.{document_line, notes_view}
 use Rattle.lsp_explain.specs.Notes.{exit_notes, misuse_line, name_notes, old_name_notes}
 use Rattle.lsp_explain.specs.SessionNotes.{misused_view}
 use Rattle.lsp_explain.proofs.NotedSteps.{exit_there, name_there, noted_length, renamed_there}
@@ -14,7 +13,7 @@ returns c = λ before heard stands are.
     let events = heard_events heard in
     let noted = stands.trail.said in
     let self = c.args.self.now in
-    let misuses = c.len.ensures
+    let misuses = c.len.ensures ∙ c.args.past.trail.now.said.notes.misuses.ok.0
     ∙ sym (length-map _ misused_view)
     ∙ ap length noted.notes_are.misuses_are
     ∙ sym (length-map _ misuse_line) in
@@ -24,9 +23,13 @@ returns c = λ before heard stands are.
     ∙ ap (λ o. length (name_notes o)) (c.name_in.ensures events stands) in
     let renamed = ap one c.is_some-3.ensures ∙ renamed_there c.renamed.result
     ∙ ap (λ o. length (old_name_notes o)) (c.renamed.ensures ∙ noted.renames_are.renamed_is) in
-    let past_ends = c.len-2.ensures ∙ noted_length _ _ are.misfits.past_ends_are in
-    let lengths = c.len-3.ensures ∙ noted_length _ _ are.misfits.range_lengths_are in
-    let refused = c.len-4.ensures ∙ noted_length _ _ are.refusals.refused_are in
-    let spelled = c.len-5.ensures ∙ noted_length _ _ are.spellings.named_are in
+    let past_ends = c.len-2.ensures ∙ self.misfits.past_ends.ok.0
+    ∙ noted_length _ _ are.misfits.past_ends_are in
+    let lengths = c.len-3.ensures ∙ self.misfits.range_lengths.ok.0
+    ∙ noted_length _ _ are.misfits.range_lengths_are in
+    let refused = c.len-4.ensures ∙ self.refusals.refused.ok.0
+    ∙ noted_length _ _ are.refusals.refused_are in
+    let spelled = c.len-5.ensures ∙ self.spellings.named.ok.0
+    ∙ noted_length _ _ are.spellings.named_are in
     λ i. misuses i ∷ exit i ∷ name i ∷ renamed i ∷ past_ends i ∷ lengths i ∷ refused i
     ∷ spelled i ∷ []

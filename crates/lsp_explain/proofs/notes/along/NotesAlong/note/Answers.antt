@@ -7,7 +7,7 @@ use Rattle.lsp_explain.proofs.notes.along.NotesAlong.note.Goals as goal
 
 pub returns : goal.returns
 returns c = on_ok_weaker c.note.result (λ behind terms before h trail are seen. record {
-  misfits = subst (AreMisfits _) (sym (found_along-push terms before h))
+  misfits = subst (AreMisfits c.note_changes.new.misfits) (sym (found_along-push terms before h))
       (c.in_ok-note_changes.ensures terms before h _ are.misfits are.behind seen);
   refusals = c.in_ok-note_messages.ensures.refused terms before h trail are.refusals seen;
   spellings = c.in_ok-note_messages.ensures.spelled terms before h trail are.spellings seen;

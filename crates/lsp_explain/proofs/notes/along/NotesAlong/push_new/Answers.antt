@@ -15,7 +15,7 @@ returns c =
         spellings = are.spellings;
         behind = are.behind;
         refused = are.refused;
-        told_are = c.counts.ensures before (before ++ h ∷ []) stands are;
+        told_are = c.counts-self.ensures before (before ++ h ∷ []) stands are;
       }) c.push_facts.ensures;
       said = on_ok_weaker c.push_facts.result (λ pushed before h stands are.
           let lists = kinds (noticed_along terms (before ++ h ∷ [])) in

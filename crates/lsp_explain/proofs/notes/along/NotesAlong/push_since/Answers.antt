@@ -1,15 +1,13 @@
-use Rattle.std.specs.Prelude.{codes, drop, if◌then◌else◌, map, option_map}
-use Rattle.std.proofs.Common.{None, ◌++◌, ◌∷◌, ◌∙◌, [], ap, sym}
+use Rattle.std.specs.Prelude.{drop, map, option_map}
+use Rattle.std.proofs.Common.{◌++◌, ◌∙◌, [], ap, sym}
 use Rattle.std.proofs.lemmas.List.{drop-map}
 use Rattle.std.proofs.lemmas.Result.{on_ok_weaker}
-use Rattle.lsp_facts.specs.Fact.{cited}
 use Rattle.lsp_verdict.specs.Heard.{heard_events}
 use Rattle.lsp_explain.specs.AllNotes.{one}
 use Rattle.lsp_explain.specs.DocumentNotes.{document_line, notes_view}
 use Rattle.lsp_explain.specs.Notes.{exit_notes, misuse_line, name_notes, old_name_notes}
 use Rattle.lsp_explain.specs.Openings.{on_view}
 use Rattle.lsp_explain.specs.SessionNotes.{misused_view, misused_views}
-use Rattle.lsp_explain.specs.Trails.{terms_in}
 use Rattle.lsp_explain.proofs.NotedSteps.{eight, exit_told, name_told, renamed_told}
 use Rattle.lsp_explain.proofs.notes.along.NotesAlong.push_since.Goals as goal
 
