@@ -5,5 +5,5 @@ use Rattle.lsp_redact.proofs.redacting.inside_frame.Goals as goal
 
 pub returns : goal.returns
 returns c = λ events counts few.
-    judged_inside events c.args.who _ _ (c.next.ensures rules.STREAM_ENDS_INSIDE_FRAME events counts)
+    judged_inside events c.args.who _ _ (c.next-number.ensures rules.STREAM_ENDS_INSIDE_FRAME events counts)
     few _ refl

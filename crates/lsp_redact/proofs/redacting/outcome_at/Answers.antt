@@ -22,11 +22,11 @@ returns-then-ends_inside c = λ terms heard tail stood few clean fits.
 
 pub returns-then-ends_inside-2 : goal.returns-then-ends_inside-2
 returns-then-ends_inside-2 c = λ terms heard tail stood few clean fits.
-    ends_server terms heard c.args.log.now c.args.end clean tail fits c.inside_frame-2.result
+    ends_server terms heard c.args.log.now c.args.end clean tail fits c.inside_frame-then-ends_inside-2.result
     (ap (λ end. bad_log_of (flaw_of end)) c.in_default.is)
     (sym c.ends_inside.ensures ∙ c.if-ends_inside.false)
     (sym c.ends_inside-2.ensures ∙ c.if-ends_inside-2.true)
-    (c.inside_frame-2.ensures (heard_events heard) stood.counted (few_events heard few))
+    (c.inside_frame-then-ends_inside-2.ensures (heard_events heard) stood.counted (few_events heard few))
 
 pub returns : goal.returns
 returns c = λ terms heard tail stood few clean fits.

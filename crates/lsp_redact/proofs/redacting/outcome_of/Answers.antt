@@ -5,6 +5,8 @@ use Rattle.lsp_verdict.specs.Heard.{heard_events}
 use Rattle.lsp_verdict.specs.Offences.{Offence}
 use Rattle.lsp_verdict.specs.Placed.{Raw}
 use Rattle.lsp_verdict.specs.Verdict.{no_by}
+use Rattle.lsp_replay.specs.Telling.{no_of}
+use Rattle.lsp_verdict.specs.declared.outcome.Outcome.TheVariants.{Done}
 use Rattle.lsp_redact.specs.Redacting.{EndsBy}
 use Rattle.lsp_redact.proofs.AccountKeeps.{ends_done, ends_judged}
 use Rattle.lsp_redact.proofs.redacting.outcome_of.Goals as goal
@@ -20,5 +22,5 @@ returns-in-Broken c = λ terms before h stood few raw_is noted rule.
 
 pub returns-in_default : goal.returns-in_default
 returns-in_default c = λ terms before h stood few raw_is noted rule.
-    subst (λ (raw : Raw). EndsBy raw _ _) (sym raw_is)
-    (ends_done c.args.raw _ c.in_default.not-Broken)
+    subst (λ (raw : Raw). EndsBy raw (no_of terms before h) Done) (sym raw_is)
+    (ends_done c.args.raw (no_of terms before h) c.in_default.not-Broken)

@@ -16,7 +16,7 @@ returns-in_ok-push_content-in-Message c =
     ++ flat_map spelling (content_records (max c.args.most 1) c.in-Message.side bytes) in
     rw c.in-Message.is (writes_made put (string_bytes c.push_content.new.text)
     (c.in_ok-push_content-in-Message.ensures ∙ ap put c.as_str.ensures.value)
-    c.in_ok-content.ensures)
+    c.in_ok-content-in-Message.ensures)
 
 pub returns-in_ok-push_snapshot-in-Snapshot : goal.returns-in_ok-push_snapshot-in-Snapshot
 returns-in_ok-push_snapshot-in-Snapshot c =
@@ -29,13 +29,13 @@ returns-in_ok-push_snapshot-in-Snapshot c =
       shows = shows_made put (string_bytes c.push_snapshot.new.text)
           (cc (
             c.in_ok-push_snapshot-in-Snapshot.ensures,
-            c.in_ok-body.ensures,
+            c.in_ok-body-in-Snapshot.ensures,
             c.as_str-in-Snapshot.ensures.value,
             c.as_str-in-Snapshot-2.ensures.value,
             c.as_str-in-Snapshot-3.ensures.value,
             c.as_str-in-Snapshot-4.ensures.value,
             to_z-of_z w32 c.in-Snapshot.version fits,
-            append-nil (spelling (shown c.in-Snapshot.version (string_bytes c.in_ok-name.name) own)),
+            append-nil (spelling (shown c.in-Snapshot.version (string_bytes c.in_ok-name-in-Snapshot.name) own)),
           ))
-          (rw c.as_str-in-Snapshot.ensures.value at c.in_ok-name.ensures);
+          (rw c.as_str-in-Snapshot.ensures.value at c.in_ok-name-in-Snapshot.ensures);
     }

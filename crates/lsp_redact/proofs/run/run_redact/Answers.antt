@@ -1,4 +1,8 @@
-use Rattle.std.proofs.Common.{ap, map, refl}
+use Rattle.std.proofs.Common.{◌≡◌, ℕ, ap, map, max, refl, subst, ◌∙◌}
+use Rattle.std.specs.Prelude.{◌/◌}
+use Rattle.lsp_replay.specs.Run.{Passes}
+use Rattle.lsp_redact.specs.Records.{most_of}
+use Rattle.lsp_redact.specs.Redacting.{redact_run}
 use Rattle.lsp_redact.specs.View.{kept_view}
 use Rattle.lsp_redact.proofs.RedactedRuns.{redacts}
 use Rattle.lsp_redact.proofs.run.run_redact.Goals as goal
@@ -13,7 +17,12 @@ pass-requires g c = record {
 }
 
 pub returns : goal.returns
-returns g c = record {
-  redacts = redacts c.args.limits _ c.pass.result
-      (rw (c.new-account.ensures.most, c.chunk.ensures) at c.pass.ensures.passes);
-}
+returns g c =
+    let most : max c.new-account.result.most 1 ≡ most_of c.args.limits =
+    ap (λ (n : ℕ). max n 1) (c.new-account.ensures.most ∙ ap (λ (n : ℕ). n / 4) c.chunk.ensures) in
+    record {
+      redacts = redacts c.args.limits _ c.pass.result
+          (subst (λ (n : ℕ). Passes (redact_run n) c.args.limits (g.R.Source.told c.args.reader.now)
+          (g.R.Source.told c.pass.new.reader) (g.W.Sink.told c.args.writer.now)
+          (g.W.Sink.told c.pass.new.writer) c.pass.result) most c.pass.ensures.passes);
+    }

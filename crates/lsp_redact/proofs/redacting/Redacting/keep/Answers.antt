@@ -16,4 +16,4 @@ returns-clause-keeps c = λ terms before h stands seen rule.
     (own_reads terms before h _ _ _ c.args.seen.now seen stands.clean)
     (own_speaks terms before h _ _ _ c.args.seen.now seen stands.clean)))
     (waits_after terms before h _ _ _ c.args.seen.now seen stands.clean
-    c.awaits_initialize.result c.awaits_initialize.ensures rule)
+    c.awaits_initialize-self.result c.awaits_initialize-self.ensures rule)

@@ -1,4 +1,4 @@
-use Rattle.std.proofs.Common.{List, ◌++◌, map, max, string_bytes, subst}
+use Rattle.std.proofs.Common.{List, ◌++◌, map, max, string_bytes, subst, ◌∙◌}
 use Rattle.std.proofs.lemmas.List.{take_all}
 use Rattle.lsp_redact.specs.Names.{names_in}
 use Rattle.lsp_redact.specs.Naming.{Writes}
@@ -16,7 +16,7 @@ loop-kept-init c =
 pub loop-kept-preserved : goal.loop-kept-preserved
 loop-kept-preserved c =
     say_more c.args.redaction.now c.loop-kept.redaction c.push_kept.new.redaction
-    (max c.args.self.now.most 1) c.args.format c.args.self.now.kept.items c.loop-kept.kept-index
+    (max c.args.self.now.most 1) c.args.format c.deref-kept-items.result.now c.loop-kept.kept-index
     c.kept-item.result (string_bytes c.args.text.now) (string_bytes c.loop-kept.text) _
     c.loop-kept-test.true c.kept-item.is c.loop-kept.invariant c.in_ok-push_kept.ensures
 
@@ -26,5 +26,6 @@ returns c =
     (names_in (map kept_view ks))
     (λ n. string_bytes c.args.text.now ++ log_by (max c.args.self.now.most 1) c.args.format n
     c.args.redaction.now.apart (map kept_view ks)) (string_bytes c.loop-kept.text))
-    (take_all c.loop-kept.kept-index c.args.self.now.kept.items c.loop-kept-test.false)
+    (take_all c.loop-kept.kept-index c.deref-kept-items.result.now c.loop-kept-test.false
+    ∙ c.deref-kept-items.ensures.value)
     c.loop-kept.invariant

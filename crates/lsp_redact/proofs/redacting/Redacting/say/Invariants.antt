@@ -7,6 +7,6 @@ use Rattle.lsp_redact.proofs.redacting.Redacting.say.Given as goal
 
 abbrev pub invariant-loop-kept : goal.invariant-loop-kept
 invariant-loop-kept l =
-    Writes l.fn.redaction l.redaction (names_in (map kept_view (take l.kept-index l.self.kept.items)))
-    (λ n. string_bytes l.fn.text ++ log_by (max l.self.most 1) l.format n l.fn.redaction.apart
-    (map kept_view (take l.kept-index l.self.kept.items))) (string_bytes l.text)
+    Writes l.fn.redaction l.redaction (names_in (map kept_view (take l.kept-index l.kept-items)))
+    (λ n. string_bytes l.fn.text ++ log_by (max l.self.most 1) l.fn.format n l.fn.redaction.apart
+    (map kept_view (take l.kept-index l.kept-items))) (string_bytes l.text)
