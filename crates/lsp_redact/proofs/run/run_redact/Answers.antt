@@ -19,7 +19,7 @@ pass-requires g c = record {
 pub returns : goal.returns
 returns g c =
     let most : max c.new-account.result.most 1 ≡ most_of c.args.limits =
-    ap (λ (n : ℕ). max n 1) (c.new-account.ensures.most ∙ ap (λ (n : ℕ). n / 4) c.chunk.ensures) in
+    ap (λ (n : ℕ). max n 1) (c.new-account.ensures.most ∙ ap (λ (n : ℕ). n / 4) c.chunk.ensures.value) in
     record {
       redacts = redacts c.args.limits _ c.pass.result
           (subst (λ (n : ℕ). Passes (redact_run n) c.args.limits (g.R.Source.told c.args.reader.now)
