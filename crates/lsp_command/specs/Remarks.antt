@@ -16,7 +16,7 @@ use Rattle.lsp_verdict.specs.declared.verdict.Verdict.{Verdict}
 use Rattle.lsp_verdict.specs.declared.verdict.Verdict.TheVariants.{Yes}
 use Rattle.lsp_command.specs.declared.command_line.task.Task.{Task}
 use Rattle.lsp_command.specs.declared.command_line.task.Task.TheVariants.{Text, TextAll, Normal, Compared}
-use Rattle.lsp_command.specs.declared.command_line.task.Task.TheVariants.{Upgrade, Frames}
+use Rattle.lsp_command.specs.declared.command_line.task.Task.TheVariants.{Upgrade, Redact, Frames}
 
 -- the fixed words for how a task ended
 abbrev pub remark_of : Result TaskOutcome RunFault → Option (List ℕ)

@@ -39,7 +39,8 @@ use Rattle.lsp_command.specs.declared.command_line.task.Task.TheVariants.{Explai
 use Rattle.lsp_command.specs.declared.command_line.task.Task.TheVariants.{ExplainNoted}
 use Rattle.lsp_command.specs.declared.command_line.task.Task.TheVariants.{Compared, Show, ShowAll}
 use Rattle.lsp_command.specs.declared.command_line.task.Task.TheVariants.{Text, TextAll, Event}
-use Rattle.lsp_command.specs.declared.command_line.task.Task.TheVariants.{Normal, Upgrade, Redact, Frames, Json}
+use Rattle.lsp_command.specs.declared.command_line.task.Task.TheVariants.{Normal, Upgrade, Redact}
+use Rattle.lsp_command.specs.declared.command_line.task.Task.TheVariants.{Frames, Json}
 
 -- ---- how a task ends, by how its run ended
 
