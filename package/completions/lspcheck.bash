@@ -2,7 +2,7 @@
 # Source this file in ~/.bashrc, or copy it as /usr/share/bash-completion/completions/lspcheck.
 
 _lspcheck() {
-    local commands="check explain show text event normal upgrade frames help"
+    local commands="check explain show text event normal upgrade redact frames help"
     local word=${COMP_WORDS[COMP_CWORD]} previous=${COMP_WORDS[COMP_CWORD - 1]}
     local command="" given=" " options="" option offered="" at
     for ((at = 1; at < COMP_CWORD; at++)); do
@@ -22,6 +22,7 @@ _lspcheck() {
         show) options="--all --long --json --quiet --help -h" ;;
         text) options="--all --quiet --help -h" ;;
         event | normal | upgrade) options="--quiet --help -h" ;;
+        redact) options="--ignore-line-ends --quiet --help -h" ;;
         frames) options="--as --quiet --help -h" ;;
     esac
     if [[ $previous == --as ]]; then

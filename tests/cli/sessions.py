@@ -43,6 +43,25 @@ EXIT = editor('{"jsonrpc":"2.0","method":"exit"}')
 KILLED = HEAD + INITIALIZE + ANSWER + INITIALIZED + OPEN + SNAPSHOT + SHUTDOWN + STOPPED
 WHOLE = KILLED + EXIT
 
+# The same with its words replaced.
+REDACTED = b"".join([
+    HEAD,
+    editor('{"id":1,"jsonrpc":"2.0","method":"initialize","params":{"capabilities":{}}}'),
+    server(
+        '{"id":1,"jsonrpc":"2.0","result":{"capabilities":'
+        '{"positionEncoding":"utf-16","textDocumentSync":2}}}'
+    ),
+    editor('{"jsonrpc":"2.0","method":"initialized"}'),
+    editor(
+        '{"jsonrpc":"2.0","method":"textDocument/didOpen","params":{"textDocument":'
+        '{"text":"xx","uri":"file:///1","version":1}}}'
+    ),
+    b"T 1 9 2\nfile:///1\nxx\n",
+    editor('{"id":2,"jsonrpc":"2.0","method":"shutdown"}'),
+    server('{"id":2,"jsonrpc":"2.0","result":null}'),
+    EXIT,
+])
+
 # The same in format 2.
 HEAD_TWO = b"lsp-session 2\n"
 UPGRADED = HEAD_TWO + WHOLE[len(HEAD):]

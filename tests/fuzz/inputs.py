@@ -178,7 +178,8 @@ def log_words(rng):
     text = ["text", *some(rng, "--all"), count, uri]
     check = ["check", *ends]
     often = [check, check, ["check", "--complete"], listed, listed, explain, explain, show, show, ["upgrade"], text]
-    return rng.choice([*often, ["normal"], ["event", count], two_texts])
+    redact = ["redact", *ends]
+    return rng.choice([*often, ["normal"], ["event", count], two_texts, redact])
 
 
 def case(seed):

@@ -193,6 +193,8 @@ RUNS = {
     "in-editor-ends": ["explain", "--in-editor", "--ignore-line-ends"],
     "normal": ["normal"],
     "upgrade": ["upgrade"],
+    "redact": ["redact"],
+    "redact-ends": ["redact", "--ignore-line-ends"],
     **{mode: ["frames", "--as", mode] for mode in ["lengths", "kinds", "canonical"]},
 }
 

@@ -155,9 +155,9 @@ pub asks_text : (rows : List Row) (number : NonZeroU64) (uri : Bor Text) (all : 
 asks_text rows number uri true asked = record { command = refl; arguments = asked }
 asks_text rows number uri false asked = record { command = refl; arguments = asked }
 
--- texts that differ in their second byte
-apart : (a b : Text) → (slice_index a 1 == slice_index b 1) ≡ false → a ≡ b → ⊥
-apart a b differ same = eqb-false _ _ differ (ap (λ (t : Text). slice_index t 1) same)
+-- texts that differ in their fourth byte
+apart : (a b : Text) → (slice_index a 3 == slice_index b 3) ≡ false → a ≡ b → ⊥
+apart a b differ same = eqb-false _ _ differ (ap (λ (t : Text). slice_index t 3) same)
 
 pub no_text : (rows : List Row)
     → ((number : NonZeroU64) (uri : Bor Text) (all : Bool) → AsksText rows number uri all → ⊥)
@@ -176,6 +176,7 @@ no_text rows none (tasks.TextAll number uri) h = none number uri true h.argument
 no_text rows none (tasks.Event number) h = apart _ _ refl h.command
 no_text rows none tasks.Normal h = apart _ _ refl h.command
 no_text rows none tasks.Upgrade h = apart _ _ refl h.command
+no_text rows none tasks.Redact h = apart _ _ refl h.command
 no_text rows none (tasks.Frames mode) h = apart _ _ refl h.command
 no_text rows none (tasks.Json report) h = absurd h.arguments
 
@@ -194,6 +195,7 @@ no_event rows none (tasks.TextAll number uri) h = apart _ _ refl h.command
 no_event rows none (tasks.Event number) h = none (non_zero_u64_get number) h.arguments
 no_event rows none tasks.Normal h = apart _ _ refl h.command
 no_event rows none tasks.Upgrade h = apart _ _ refl h.command
+no_event rows none tasks.Redact h = apart _ _ refl h.command
 no_event rows none (tasks.Frames mode) h = apart _ _ refl h.command
 no_event rows none (tasks.Json report) h = absurd h.arguments
 

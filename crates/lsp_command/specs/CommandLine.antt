@@ -119,6 +119,9 @@ normal = command (codes "normal") (quiet ∷ file ∷ [])
 abbrev pub upgrade : Shape
 upgrade = command (codes "upgrade") (quiet ∷ file ∷ [])
 
+abbrev pub redact : Shape
+redact = command (codes "redact") (ignore_line_ends ∷ quiet ∷ file ∷ [])
+
 abbrev pub frames : Modes → Shape
 frames modes = command (codes "frames") (mode modes ∷ quiet ∷ file ∷ [])
 
@@ -134,7 +137,7 @@ program = record (new_shape (codes "lspcheck")) {
 abbrev pub command_line : Modes → App
 command_line modes = record {
   top = program;
-  subs = check ∷ explain ∷ show ∷ text ∷ event ∷ normal ∷ upgrade ∷ frames modes ∷ [];
+  subs = check ∷ explain ∷ show ∷ text ∷ event ∷ normal ∷ upgrade ∷ redact ∷ frames modes ∷ [];
 }
 
 -- the names that `--as` takes

@@ -16,7 +16,7 @@ use Rattle.lsp_verdict.specs.declared.verdict.Verdict.{Verdict}
 use Rattle.lsp_verdict.specs.declared.verdict.Verdict.TheVariants.{Yes}
 use Rattle.lsp_command.specs.declared.command_line.task.Task.{Task}
 use Rattle.lsp_command.specs.declared.command_line.task.Task.TheVariants.{Text, TextAll, Normal, Compared}
-use Rattle.lsp_command.specs.declared.command_line.task.Task.TheVariants.{Upgrade, Frames}
+use Rattle.lsp_command.specs.declared.command_line.task.Task.TheVariants.{Upgrade, Redact, Frames}
 
 -- the fixed words for how a task ended
 abbrev pub remark_of : Result TaskOutcome RunFault → Option (List ℕ)
@@ -40,15 +40,16 @@ abbrev pub report_refused : Verdict → Option (List ℕ)
 report_refused (Yes s) = None
 report_refused v = Some (report (verdict_view v))
 
--- the report that is separate from what was requested: that of a verdict in `text` and `normal` and
--- where one of two texts is written, of one other than Yes in `upgrade`, and that of a stream in
--- `frames --as canonical`
+-- the report that is separate from what was requested: that of a verdict in `text`, `normal`
+-- and `redact` and where one of two texts is written, of one other than Yes in `upgrade`, and that
+-- of a stream in `frames --as canonical`
 abbrev pub run_report_apart : Task → Outcome → Option (List ℕ)
 run_report_apart (Text number uri) (Judged v) = Some (report (verdict_view v))
 run_report_apart (TextAll number uri) (Judged v) = Some (report (verdict_view v))
 run_report_apart (Compared which) (Judged v) = Some (report (verdict_view v))
 run_report_apart Normal (Judged v) = Some (report (verdict_view v))
 run_report_apart Upgrade (Judged v) = report_refused v
+run_report_apart Redact (Judged v) = Some (report (verdict_view v))
 run_report_apart (Frames Canonical) (Stream frame fault) = Some (stream_report frame fault)
 run_report_apart task outcome = None
 

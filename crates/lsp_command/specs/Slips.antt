@@ -31,6 +31,7 @@ uri_of (tasks.ShowAll lines) = None
 uri_of (tasks.Event number) = None
 uri_of tasks.Normal = None
 uri_of tasks.Upgrade = None
+uri_of tasks.Redact = None
 uri_of (tasks.Frames mode) = None
 uri_of (tasks.Json report) = None
 

@@ -24,6 +24,7 @@ use Rattle.lsp_explain.specs.AllNotes.{ExplainsNoted, noted_run}
 use Rattle.lsp_explain.specs.ExplainRuns.{all_run, explain_run}
 use Rattle.lsp_explain.specs.Explained.{ExplainsAll, WritesExplanation}
 use Rattle.lsp_explain.specs.Compared.{AnswersCompared}
+use Rattle.lsp_redact.specs.Redacted.{Redacts}
 use Rattle.lsp_survey.specs.AllShown.{ShowsAll}
 use Rattle.lsp_survey.specs.KeptText.{AnswersKept}
 use Rattle.lsp_survey.specs.Reported.{SurveysLog}
@@ -38,7 +39,8 @@ use Rattle.lsp_command.specs.declared.command_line.task.Task.TheVariants.{Explai
 use Rattle.lsp_command.specs.declared.command_line.task.Task.TheVariants.{ExplainNoted}
 use Rattle.lsp_command.specs.declared.command_line.task.Task.TheVariants.{Compared, Show, ShowAll}
 use Rattle.lsp_command.specs.declared.command_line.task.Task.TheVariants.{Text, TextAll, Event}
-use Rattle.lsp_command.specs.declared.command_line.task.Task.TheVariants.{Normal, Upgrade, Frames, Json}
+use Rattle.lsp_command.specs.declared.command_line.task.Task.TheVariants.{Normal, Upgrade, Redact}
+use Rattle.lsp_command.specs.declared.command_line.task.Task.TheVariants.{Frames, Json}
 
 -- ---- how a task ends, by how its run ended
 
@@ -99,6 +101,7 @@ Answers limits (Event number) p result =
     × GivesEvent limits p (non_zero_u64_get number) ended
 Answers limits Normal p result = EndsRun (Normalizes limits p) result
 Answers limits Upgrade p result = EndsRun (UpgradesLog limits p) result
+Answers limits Redact p result = EndsRun (Redacts limits p) result
 Answers limits (Frames mode) p result = EndsRun (RunsFrames mode limits p) result
 Answers limits (Json report) p result = EndsRun (WritesReport limits report p) result
 

@@ -199,6 +199,7 @@ command_of (tasks.TextAll number uri) = codes "text"
 command_of (tasks.Event number) = codes "event"
 command_of tasks.Normal = codes "normal"
 command_of tasks.Upgrade = codes "upgrade"
+command_of tasks.Redact = codes "redact"
 command_of (tasks.Frames mode) = codes "frames"
 command_of (tasks.Json report) = []
 
@@ -219,6 +220,7 @@ HasArguments rows (tasks.TextAll number uri) = AsksText rows number uri true
 HasArguments rows (tasks.Event number) = GivesNumber rows (non_zero_u64_get number)
 HasArguments rows tasks.Normal = Unit {0}
 HasArguments rows tasks.Upgrade = Unit {0}
+HasArguments rows tasks.Redact = Unit {0}
 HasArguments rows (tasks.Frames mode) = mode ≡ mode_of (first_of (codes "as") rows)
 -- nor for this: it is done in place of another task where JSON is asked for
 HasArguments rows (tasks.Json report) = ⊥

@@ -29,9 +29,8 @@ pub fn remark_of(ended: &Result<TaskOutcome, RunFault>) -> Option<&'static str>
 }
 
 /// The report of a fault, where it is not part of what the task writes: `text`, `event`, `normal`,
-/// `upgrade`, `frames --as canonical` and `explain` with the option for one of two texts write what
-/// was asked for and nothing else. Yes is not a
-/// fault of a log that was upgraded.
+/// `upgrade`, `redact`, `frames --as canonical` and `explain` with the option for one of two texts
+/// write what was asked for and nothing else. Yes is not a fault of a log that was upgraded.
 ///
 /// # Errors
 /// `Memory` where memory was refused, and nothing else.
@@ -80,7 +79,8 @@ fn run_report_apart(
             | Task::TextAll { .. }
             | Task::Compared(_)
             | Task::Normal
-            | Task::Upgrade,
+            | Task::Upgrade
+            | Task::Redact,
         ) => Ok(Some(verdict_report(alloc, verdict)?)),
         _ => Ok(None),
     }

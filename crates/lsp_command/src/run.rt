@@ -20,6 +20,7 @@ use lsp_judge::{
     run_check_line, run_check_object, run_event, run_frames, run_normal, run_show, run_show_json,
     run_show_long, run_text, run_upgrade,
 };
+use lsp_redact::run_redact;
 use lsp_survey::{run_show_all, run_show_all_json, run_survey, run_survey_json, run_text_all};
 use std::alloc::Global;
 use std::io::{Read, Write};
@@ -71,6 +72,7 @@ pub fn run_task<R: Source, W: Sink>(
         Task::Event { number } => of_event(run_event(alloc, source, sink, limits, number.get())),
         Task::Normal => of_run(run_normal(alloc, source, sink, limits)),
         Task::Upgrade => of_run(run_upgrade(alloc, source, sink, limits)),
+        Task::Redact => of_run(run_redact(alloc, source, sink, limits)),
         Task::Frames(mode) => of_run(run_frames(alloc, source, sink, limits, mode)),
         Task::Json(report) => of_run(run_json(alloc, report, source, sink, limits)),
     }

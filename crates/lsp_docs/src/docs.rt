@@ -152,6 +152,13 @@ impl<S: TextStore> Docs<S> {
         self.terms.limit
     }
 
+    /// How many versions of a document are kept before the held one, as its log's format says.
+    pub fn kept(&self) -> usize
+        ensures { result ≡ self.now.terms.kept }
+    {
+        self.terms.kept
+    }
+
     /// Whether texts are compared with their line ends.
     pub fn line_ends(&self) -> LineEnds
         ensures { result ≡ self.now.terms.line_ends }

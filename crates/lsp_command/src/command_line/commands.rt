@@ -7,7 +7,8 @@ ghost use Rattle.lsp_command.specs.CommandLine.{explain, file, files, flag, fram
 ghost use Rattle.lsp_command.specs.CommandLine.{explain_options, explained_options};
 ghost use Rattle.lsp_command.specs.CommandLine.{ignore_line_ends, json};
 ghost use Rattle.lsp_command.specs.CommandLine.{show_options};
-ghost use Rattle.lsp_command.specs.CommandLine.{number, program, quiet, show, text, upgrade, uri};
+ghost use Rattle.lsp_command.specs.CommandLine.{number, program, quiet, redact, show, text, upgrade};
+ghost use Rattle.lsp_command.specs.CommandLine.{uri};
 
 use clap::{Arg, ArgAction, Command, value_parser};
 use std::alloc::{AllocError, Global};
@@ -29,6 +30,7 @@ Examples:
   lspcheck show session.log | tail           the last events before the verdict
   lspcheck text 12 file:///a.c session.log   what the server should hold after message 12
   lspcheck event 8 session.log               the content of event 8
+  lspcheck redact session.log                the session without its words
   lspcheck frames --as kinds server.bin      what each message of a raw stream is
 
 Exit status:
@@ -301,6 +303,16 @@ fn upgrade<'a>(alloc: Global) -> Result<Command<'a>, AllocError>
         .arg(log_file(alloc))
 }
 
+fn redact<'a>(alloc: Global) -> Result<Command<'a>, AllocError>
+    ensures { IfOk result (λ command. shape_of command ≡ redact) }
+{
+    Command::new(alloc, "redact")
+        .about("Writes a log with its words replaced, which has the same verdict")
+        .arg(ignore_line_ends(alloc))?
+        .arg(quiet(alloc))?
+        .arg(log_file(alloc))
+}
+
 fn frames<'a>(alloc: Global) -> Result<Command<'a>, AllocError>
     ensures { IfOk result (λ command.
         (modes : Modes) × AreModes modes × (shape_of command ≡ frames modes)) }
@@ -347,5 +359,6 @@ pub(crate) fn command_line<'a>(alloc: Global) -> Result<Command<'a>, AllocError>
     let program = with(program, event(alloc))?;
     let program = with(program, normal(alloc))?;
     let program = with(program, upgrade(alloc))?;
+    let program = with(program, redact(alloc))?;
     with(program, frames(alloc))
 }

@@ -53,6 +53,8 @@ pub enum Task<'a> {
     Normal,
     /// To write a log again in format 2.
     Upgrade,
+    /// To write a log with its words replaced.
+    Redact,
     /// To read one raw stream of frames.
     Frames(Mode),
     /// To write as JSON what another task writes: an object for each line.

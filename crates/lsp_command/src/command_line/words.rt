@@ -227,6 +227,7 @@ fn task_of<'a>(name: &str, arguments: &ArgMatches<'a>) -> Option<Task<'a>>
         "event" => event_task(arguments),
         "normal" => Some(Task::Normal),
         "upgrade" => Some(Task::Upgrade),
+        "redact" => Some(Task::Redact),
         "frames" => Some(frames_task(arguments)),
         _ => None,
     }

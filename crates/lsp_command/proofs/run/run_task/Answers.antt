@@ -103,6 +103,12 @@ returns-in-Upgrade g c =
     let of = c.of_run-in-Upgrade.ensures in
     rw c.in-Upgrade.is (record { ran = run_ended _ _ _ _ _ of is.counts (_, of, is) })
 
+pub returns-in-Redact : goal.returns-in-Redact
+returns-in-Redact g c =
+    let is = c.run_redact.ensures.redacts in
+    let of = c.of_run-in-Redact.ensures in
+    rw c.in-Redact.is (record { ran = run_ended _ _ _ _ _ of is.counts (_, of, is) })
+
 pub returns-in-Frames : goal.returns-in-Frames
 returns-in-Frames g c =
     let is = c.run_frames.ensures.framed in

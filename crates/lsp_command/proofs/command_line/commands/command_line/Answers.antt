@@ -5,7 +5,7 @@ use Rattle.clap.specs.Words.{AddsSubcommand, App, Shape, app_of, shape_of, with_
 use Rattle.clap.specs.declared.builder.command.Command.TheViews.{out-Command}
 use Rattle.clap.specs.declared.builder.command.Command.{Command}
 use Rattle.lsp_command.specs.CommandLine.{AreModes, Modes, check, event, explain}
-use Rattle.lsp_command.specs.CommandLine.{frames, normal, show, text, upgrade}
+use Rattle.lsp_command.specs.CommandLine.{frames, normal, redact, show, text, upgrade}
 use Rattle.lsp_command.proofs.command_line.commands.command_line.Goals as goal
 
 third_is_false : (a b g rest : Bool) → (a && (b && (not g && rest))) ≡ true → g ≡ false
@@ -40,4 +40,5 @@ returns c =
     let five = adds _ _ _ _ event refl four c.event.ensures c.in_ok-program-5.ensures in
     let six = adds _ _ _ _ normal refl five c.normal.ensures c.in_ok-program-6.ensures in
     let seven = adds _ _ _ _ upgrade refl six c.upgrade.ensures c.in_ok-program-7.ensures in
-    IfOk-weaker c.with-8.result _ _ (λ new added. adds_frames c.frames.result _ new _ seven c.frames.ensures added) c.with-8.ensures
+    let eight = adds _ _ _ _ redact refl seven c.redact.ensures c.in_ok-program-8.ensures in
+    IfOk-weaker c.with-9.result _ _ (λ new added. adds_frames c.frames.result _ new _ eight c.frames.ensures added) c.with-9.ensures

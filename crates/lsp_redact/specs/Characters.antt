@@ -1,0 +1,79 @@
+-- What a character is shown by: another of its kind, which has as many units in each encoding.
+use Rattle.std.specs.Prelude.{ℕ, List, [], ◌∷◌, map, Bool, true, false, ◌==◌, ◌&&◌, nat_le, nat_lt}
+use Rattle.std.specs.Prelude.{if◌then◌else◌, Option, Some, None, chars, encode_utf8_all}
+use Rattle.lsp_types.specs.declared.line_ends.LineEnds.{LineEnds}
+use Rattle.lsp_text.specs.SameText.{compared}
+use Rattle.lsp_facts.specs.TwoTexts.{TwoTexts, texts_view}
+use Rattle.lsp_facts.specs.declared.two_texts.TwoTexts as code
+use Rattle.lsp_text.specs.Counted.{Counted}
+use Rattle.lsp_redact.specs.declared.characters.Kind.{Kind}
+use Rattle.lsp_redact.specs.declared.characters.Kind.TheVariants.{Small, Capital, Digit, Other}
+use Rattle.lsp_redact.specs.declared.characters.Kind.TheVariants.{TwoBytes, ThreeBytes, FourBytes}
+
+-- ---- kinds
+
+abbrev pub lies : ℕ → ℕ → ℕ → Bool
+lies first last c = nat_le first c && nat_le c last
+
+-- small letters, capitals and digits of ASCII, and all else there
+abbrev pub ascii_kind : ℕ → Kind
+ascii_kind c =
+    if lies 97 122 c then Small
+    else (if lies 65 90 c then Capital else (if lies 48 57 c then Digit else Other))
+
+-- beyond ASCII, how many bytes of UTF-8 the character has
+abbrev pub kind_of : ℕ → Kind
+kind_of c =
+    if nat_lt c 0x80 then ascii_kind c
+    else (if nat_lt c 0x800 then TwoBytes
+    else (if nat_lt c 0x1_0000 then ThreeBytes else FourBytes))
+
+-- ---- characters
+
+-- what a kind is shown by, and what the character of it that must stay apart is shown by: x and y,
+-- X and Y, 0 and 1, é and è, 一 and 二, 😀 and 😁. All else in ASCII is shown as it is
+abbrev pub shown_by : Kind → Option (ℕ × ℕ)
+shown_by Small = Some (120, 121)
+shown_by Capital = Some (88, 89)
+shown_by Digit = Some (48, 49)
+shown_by TwoBytes = Some (0xE9, 0xE8)
+shown_by ThreeBytes = Some (0x4E00, 0x4E8C)
+shown_by FourBytes = Some (0x1_F600, 0x1_F601)
+shown_by Other = None
+
+abbrev pub is_apart : Option ℕ → ℕ → Bool
+is_apart None c = false
+is_apart (Some other) c = other == c
+
+abbrev pub one_of : Option (ℕ × ℕ) → Bool → ℕ → ℕ
+one_of None is_apart c = c
+one_of (Some pair) false c = pair.0
+one_of (Some pair) true c = pair.1
+
+-- **what a character is shown by**, where this one must stay apart from the others
+abbrev pub shown_as : Option ℕ → ℕ → ℕ
+shown_as apart c = one_of (shown_by (kind_of c)) (is_apart apart c) c
+
+-- **a text by what its characters are shown by**
+abbrev pub shown_text : Option ℕ → List ℕ → List ℕ
+shown_text apart text = map (shown_as apart) text
+
+-- the same of the bytes of a text
+abbrev pub shown_bytes : Option ℕ → List ℕ → List ℕ
+shown_bytes apart bytes = encode_utf8_all (shown_text apart (chars bytes))
+
+-- ---- the character by which two texts stay apart
+
+-- two texts, where one is lent with its lines
+abbrev pub seen_texts : code.TwoTexts Counted → TwoTexts
+seen_texts texts = texts_view (λ (s : Counted). s.content) texts
+
+-- the character of the second text where it first differs from the first, unless it ends there
+abbrev pub first_other : List ℕ → List ℕ → Option ℕ
+first_other text [] = None
+first_other [] (c ∷ other) = Some c
+first_other (d ∷ text) (c ∷ other) = if d == c then first_other text other else Some c
+
+-- that of the editor's own text, as the two are compared
+abbrev pub apart_in : LineEnds → TwoTexts → Option ℕ
+apart_in ends texts = first_other (compared ends texts.by_messages) (compared ends texts.in_editor)

@@ -1,0 +1,17 @@
+pub mod Characters
+pub mod Kept
+pub mod View
+pub mod Copies
+pub mod Numbered
+pub mod Names
+pub mod Naming
+pub mod Messages
+pub mod Shown
+pub mod Broken
+pub mod Records
+pub mod Redacting
+pub mod Keeping
+pub mod Redacted
+pub mod ShownEdits
+pub mod ShownCalls
+pub mod Laws

@@ -1,0 +1,65 @@
+//! What stands for a content that is no message, or whose params do not have their shape.
+ghost use Rattle.std.specs.Prelude.{◌≡◌, IfOk, string_bytes};
+ghost use Rattle.lsp_redact.specs.Broken as spec;
+ghost use Rattle.lsp_redact.specs.Broken.{Replaces};
+ghost use Rattle.lsp_rpc.specs.View.{message_view};
+ghost use Rattle.lsp_types.specs.declared.side.Side.{Side};
+ghost use Rattle.lsp_rpc.specs.Params.{IsRefused};
+ghost use Rattle.serde_json.specs.View.{view};
+
+use lsp_rpc::{Message, Result, RpcFault, read};
+use lsp_types::rules;
+use serde_json::{Value, json};
+use std::alloc::Global;
+
+/// A content that breaks a rule of 201 to 208 (JSON-RPC 2.0, sections 4 and 5).
+fn broken_content(rule: u16) -> &'static str
+    ensures { result.now ≡ spec.broken_content rule }
+{
+    match rule {
+        rules::MESSAGE_NOT_OBJECT => "[]",
+        rules::BAD_JSONRPC_VERSION => "{}",
+        rules::METHOD_NOT_STRING => "{\"jsonrpc\":\"2.0\",\"method\":null}",
+        rules::BAD_ID => "{\"id\":[],\"jsonrpc\":\"2.0\"}",
+        rules::BAD_PARAMS => "{\"jsonrpc\":\"2.0\",\"method\":\"\",\"params\":0}",
+        rules::NOT_A_MESSAGE => "{\"jsonrpc\":\"2.0\"}",
+        rules::BAD_ERROR_OBJECT => "{\"error\":null,\"id\":0,\"jsonrpc\":\"2.0\"}",
+        _ => "",
+    }
+}
+
+/// A call of a method without its params.
+fn bare_call(alloc: Global, message: &Message) -> Result<Value>
+    ensures { IfOk result (λ value. view value ≡ spec.bare_call (message_view message.now)) }
+{
+    match message {
+        Message::Request { method, .. } => {
+            Ok(json!(in alloc; {"id": 0u32, "jsonrpc": "2.0", "method": method})?)
+        }
+        Message::Notification { method, .. } => {
+            Ok(json!(in alloc; {"jsonrpc": "2.0", "method": method})?)
+        }
+        Message::Response { .. } => Ok(Value::Null),
+    }
+}
+
+/// What stands for a content that breaks this rule of 201 to 209: of bad params only the method
+/// stays, and of all else nothing.
+pub(crate) fn broken_text(alloc: Global, content: &[u8], rule: u16) -> Result<String>
+    ensures { IfOk result (λ text. (side : Side) → IsRefused side content.now rule
+        → Replaces content.now rule (string_bytes text)) }
+{
+    if rule != rules::BAD_METHOD_PARAMS {
+        let text = String::from_str(alloc, broken_content(rule))?;
+        return Ok(text);
+    }
+    match read(alloc, content) {
+        Ok(message) => {
+            let bare = bare_call(alloc, &message)?;
+            let shown = bare.to_string(alloc)?;
+            Ok(shown)
+        }
+        Err(RpcFault::Rule(_)) => Ok(String::new(alloc)),
+        Err(RpcFault::Memory) => Err(lsp_rpc::Memory),
+    }
+}
