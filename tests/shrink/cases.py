@@ -256,15 +256,15 @@ def shortens_a_608(program, place):
 
 
 def shortens_what_breaks_rules_of_changes(program, place):
-    """601 and 603 to 606: the document is opened with the text that it has by then. Of several
-    changes, those that make no difference go."""
+    """601 and 603 to 606: the document is opened with the text that it has by then, but for a 603
+    before another message (`precedes`), which stays. Of several changes, those that make no
+    difference go."""
     log = head() + sent(opened(URI, 1, "".join(LINES))) + chatter(40)
     log += sent(changed(URI, 5, edit((9, 0), (9, 3), "😀"))) + chatter(80)
     held = opening = None
     for last, held, opening, wanted in [
         (opened(URI, 6, "again\n"), "", 5, opened_with(6, "")),
         (changed(URI, 5), "", 5, change_of(5)),
-        (changed(URI, 4, edit((9, 1), (11, 0), "")), "😀 value_9;\nint value_11;\n", 5, change_of(4, (0, 1, 1, 0, ""))),
         (
             changed(URI, 7, edit((2, 0), (2, 0), "x"), edit((9, 1), (9, 1), "y"), edit((9, 0), (9, 0), "z")),
             "😀 value_9;\n", 5, change_of(7, (0, 1, 0, 1, "y")),
@@ -273,6 +273,12 @@ def shortens_what_breaks_rules_of_changes(program, place):
     ]:
         wanted = [*HEAD, open_of(opening, held), wanted]
         leaves(program, place, log + sent(last) + chatter(900), wanted)
+    leaves(program, place, log + sent(changed(URI, 4, edit((9, 1), (11, 0), ""))) + chatter(900), [
+        *HEAD,
+        opened_with(1, "int value_9;\nint value_11;\n"),
+        change_of(5, (0, 0, 0, 3, "😀")),
+        change_of(4, (0, 1, 1, 0, "")),
+    ])
     full = head({"capabilities": {"textDocumentSync": 1}}) + sent(opened(URI, 1, "a\nb\nc\n"))
     leaves(program, place, full + chatter(40, 0) + sent(changed(URI, 2, edit((1, 0), (1, 1), ""))), [
         INITIALIZE,
