@@ -65,6 +65,12 @@ function shownCode(code) {
   return code === "end" ? "the end of the text" : code;
 }
 
+const LINE_KINDS = {
+  lf: "LF alone has them",
+  ecmascript: "ECMAScript has them: by U+2028 and U+2029, too",
+  python: "splitlines of Python has them",
+};
+
 const LINE_ENDS = { "\n": "LF", "\r\n": "CR LF", "\r": "CR" };
 
 function shownEnds([kind, from, to]) {
@@ -107,6 +113,7 @@ const LINES = {
   fits: ["It would fit", (names) => [
     `if columns were counted in ${names.join(" or ").toUpperCase()}`,
   ]],
+  "lines-by": ["It would fit", ([name]) => [`if lines ended as ${LINE_KINDS[name] ?? name}`]],
   "at-once": ["It would fit", ([version, ...by]) => [
     `if the ranges of version ${version} were all taken in the text before it: `, ...shownEvent(by),
   ]],
