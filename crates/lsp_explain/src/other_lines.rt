@@ -1,6 +1,6 @@
 //! With which other line ends the suspects make the text that the editor had.
 ghost use Rattle.std.specs.Prelude.{◌≡◌, ◌++◌, ◌∷◌, [], IfOk, OnOk, is_some, length, nat_lt, option_map};
-ghost use Rattle.std.specs.Prelude.{string_bytes};
+ghost use Rattle.std.specs.Prelude.{if◌then◌else◌, string_bytes};
 ghost use Rattle.std.specs.List.{find};
 ghost use Rattle.std.specs.Str.{chars};
 ghost use Rattle.lsp_text.specs.Changes.{edit_of, edits_of};
@@ -200,7 +200,7 @@ fn seen_as(by: LinesBy, char: char) -> char
 }
 
 fn without_return(char: char) -> char
-    ensures { result ≡ spec.seen_as Lf char }
+    ensures { result ≡ spec.seen_as LinesBy.Lf char }
 {
     if char == '\r' { ' ' } else { char }
 }

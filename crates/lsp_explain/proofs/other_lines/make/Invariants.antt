@@ -7,5 +7,5 @@ use Rattle.lsp_explain.proofs.other_lines.make.Given as goal
 
 abbrev pub invariant-loop-change : goal.invariant-loop-change
 invariant-loop-change l =
-    made_so l.by l.encoding (chars (string_bytes l.text)) (edits_of l.changes)
+    made_so l.by l.encoding (chars (string_bytes l.fn.text)) (edits_of l.changes)
     ≡ made_so l.by l.encoding (chars (string_bytes l.made)) (edits_of (drop l.change-index l.changes))
