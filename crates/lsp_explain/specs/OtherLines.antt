@@ -1,5 +1,5 @@
 -- What the suspects make if lines end otherwise than in LSP.
-use Rattle.std.specs.Prelude.{ℕ, ◌+◌, ◌==◌, ◌&&◌, ◌||◌, nat_lt, not, Bool, true, false, List, []}
+use Rattle.std.specs.Prelude.{ℕ, ◌+◌, ◌==◌, ◌||◌, nat_lt, not, Bool, List, []}
 use Rattle.std.specs.Prelude.{◌∷◌, codes, is_some, length, map, if◌then◌else◌, Option, Some, None}
 use Rattle.std.specs.Prelude.{option_and_then, option_map, option_to_list}
 use Rattle.std.specs.List.{find, flat_map}

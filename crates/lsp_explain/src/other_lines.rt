@@ -1,5 +1,5 @@
 //! With which other line ends the suspects make the text that the editor had.
-ghost use Rattle.std.specs.Prelude.{◌≡◌, ◌++◌, ◌∷◌, [], IfOk, OnOk, is_some, length, nat_lt, option_map};
+ghost use Rattle.std.specs.Prelude.{◌≡◌, ◌++◌, IfOk, OnOk, is_some, length, nat_lt, option_map};
 ghost use Rattle.std.specs.Prelude.{if◌then◌else◌, string_bytes};
 ghost use Rattle.std.specs.List.{find};
 ghost use Rattle.std.specs.Str.{chars};
