@@ -1,8 +1,7 @@
 -- Bytes, line by line, and whether their lines can be those of a header part.
 use Rattle.std.proofs.Common.{◌≡◌, ◌≤◌, ◌<◌, ◌+◌, ◌&&◌, ◌||◌, ℕ, Bool, true, false, List, [], ◌∷◌}
-use Rattle.std.proofs.Common.{length, take, drop, ap, ◌∙◌, refl, arith, Some, None}
+use Rattle.std.proofs.Common.{length, take, drop, ap, ◌∙◌, refl, arith, All, Some, None}
 use Rattle.std.specs.List.{position, position_or_len, slice_split}
-use Rattle.core.specs.List.{All}
 use Rattle.std.proofs.lemmas.Bool.{and_left, or_from}
 use Rattle.std.proofs.lemmas.Grind.{common_steps}
 use Rattle.std.proofs.lemmas.List.Splits.{length-slice_split, slice_split_first, slice_split_none}

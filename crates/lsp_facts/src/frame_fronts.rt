@@ -1,5 +1,5 @@
 //! Whether a frame that is not whole can become one.
-ghost use Rattle.std.specs.Prelude.{◌≡◌, ◌≤◌, ◌<◌, length, IfSome};
+ghost use Rattle.std.specs.Prelude.{◌≡◌, ◌≤◌, ◌<◌, ◌+◌, drop, length, IfSome};
 ghost use Rattle.std.specs.List.{list_all, prefix_len, position};
 ghost use Rattle.lsp_facts.specs.FrameFronts as spec;
 ghost use Rattle.lsp_frame.specs.Header.{is_text as text, is_token as token};
@@ -18,9 +18,17 @@ pub(crate) fn may_go_on(rest: &[u8]) -> bool
         if !is_field_line(line) {
             return false;
         }
-        left = &left[size + 1..];
+        left = rest_after(left, size);
     }
     is_line_front(left)
+}
+
+/// The bytes after a line that is so long, and its LF.
+fn rest_after(bytes: &[u8], size: usize) -> &[u8]
+    requires { size < length bytes.now }
+    ensures { result.now ≡ drop (size + 1) bytes.now }
+{
+    &bytes[size + 1..]
 }
 
 /// How long the first line is, up to its LF, if it has one.

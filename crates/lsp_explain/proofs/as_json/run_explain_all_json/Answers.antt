@@ -3,7 +3,8 @@ use Rattle.lsp_explain.proofs.as_json.run_explain_all_json.Goals as goal
 
 pub pass-requires : goal.pass-requires
 pass-requires g c = record {
-  begins = λ terms. rw c.new-account.ensures (c.new-all.ensures.stands terms, all_quiet c.args.completeness);
+  begins = λ terms. rw c.new-account.ensures
+      (c.new-all.ensures.stands terms, all_quiet c.args.completeness);
 }
 
 pub returns : goal.returns

@@ -3,7 +3,8 @@ use Rattle.lsp_survey.proofs.as_json.run_survey_json.Goals as goal
 
 pub pass-requires : goal.pass-requires
 pass-requires g c = record {
-  begins = λ terms. rw c.new-account.ensures (c.new-survey.ensures.stands terms, survey_quiet _);
+  begins = λ terms. rw c.new-account.ensures
+      (c.new-survey.ensures.stands terms, survey_quiet c.new-survey.result.options);
 }
 
 pub returns : goal.returns
