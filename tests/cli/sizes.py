@@ -236,26 +236,19 @@ def opened_before(later):
     return b"".join(log), yes((later + 3, 2), (0, 0), lines)
 
 
-def sent_twice(later):
-    """A change, others of another document after it, and the first one again. It is compared with
-    the last 16 changes."""
-    return sent_again([replaced((0, 0), (0, 1), "x")], later, later < 16)
-
-
 def changes_of(size):
     """Two changes of this size: 64 bytes for each, and those of the texts."""
     return [{"text": "é" * 30_000}, {"text": "x" * (size - 60_000 - 2 * 64)}]
 
 
-def sent_again(change, later, is_same):
-    """The same of these changes, which are compared or not."""
-    uri, other = "file:///a", "file:///b"
-    log = [START, did_open(uri, 1, "ab"), did_open(other, 1, "ab"), did_change(uri, 2, change)]
-    log += [did_change(other, 2 + number, []) for number in range(later)]
-    report = f"no 603 editor {later + 6} event {later + 7}\nversion does not rise\n"
-    report += f'event {later + 7} editor {later + 6} notification "textDocument/didChange"\nuri "file:///a"\n'
-    report += f"held 2 event 6 editor 5\nsent 2\nchanges {len(change)}\n" + ("same event 6 editor 5\n" if is_same else "")
-    return b"".join([*log, did_change(uri, 2, change)]), f"{report}usually editor\n".encode()
+def sent_twice(change, is_same):
+    """Changes that are sent twice, and compared or not."""
+    uri = "file:///a"
+    log = [START, did_open(uri, 1, "ab"), did_change(uri, 2, change), did_change(uri, 2, change)]
+    report = 'no 603 editor 5 event 6\nversion does not rise\nevent 6 editor 5 notification "textDocument/didChange"\n'
+    report += f'uri "file:///a"\nheld 2 event 5 editor 4\nsent 2\nchanges {len(change)}\n'
+    report += "same event 5 editor 4\n" if is_same else ""
+    return b"".join(log), f"{report}usually editor\n".encode()
 
 
 def saved_before(later):
@@ -400,10 +393,8 @@ def small():
     ]:
         yield name, ["explain"], log, 0, report, b""
     for name, (log, report) in [
-        ("a change sent twice, with 15 between", sent_twice(15)),
-        ("a change sent twice, with 16 between", sent_twice(16)),
-        ("changes of 65,536 bytes sent twice", sent_again(changes_of(65_536), 0, True)),
-        ("changes of 65,537 bytes sent twice", sent_again(changes_of(65_537), 0, False)),
+        ("changes of 65,536 bytes sent twice", sent_twice(changes_of(65_536), True)),
+        ("changes of 65,537 bytes sent twice", sent_twice(changes_of(65_537), False)),
         ("a save before 63 others", saved_before(63)),
         ("a save before 64 others", saved_before(64)),
     ]:

@@ -82,18 +82,22 @@ abbrev pub check : Shape
 check = command (codes "check")
     (check_options.rules ++ ignore_line_ends ∷ json ∷ quiet ∷ files ∷ [])
 
--- `explain` with its own options alone
+-- `explain` with the first of its options alone
 abbrev pub explain_options : Shape
 explain_options = command (codes "explain")
-    (flag (codes "complete") ∷ flag (codes "all") ∷ ignore_line_ends ∷ [])
+    (flag (codes "complete") ∷ flag (codes "all") ∷ ignore_line_ends
+    ∷ flag (codes "by-messages") ∷ [])
 
 abbrev pub explain : Shape
-explain = command (codes "explain") (explain_options.rules ++ flag (codes "by-messages")
-    ∷ flag (codes "in-editor") ∷ json ∷ quiet ∷ file ∷ [])
+explain = command (codes "explain")
+    (explain_options.rules ++ flag (codes "in-editor") ∷ json ∷ quiet ∷ file ∷ [])
+
+-- `show` with its own options alone
+abbrev pub show_options : Shape
+show_options = command (codes "show") (flag (codes "all") ∷ flag (codes "long") ∷ [])
 
 abbrev pub show : Shape
-show = command (codes "show")
-    (flag (codes "all") ∷ flag (codes "long") ∷ json ∷ quiet ∷ file ∷ [])
+show = command (codes "show") (show_options.rules ++ json ∷ quiet ∷ file ∷ [])
 
 -- `text` with its own arguments and options alone
 abbrev pub text_options : Shape

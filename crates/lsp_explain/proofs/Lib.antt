@@ -13,7 +13,7 @@ pub mod Standard
 pub mod Quiet
 pub mod DocumentNoting
 pub mod Misfitting
-pub mod Naming
+pub mod NamedDocuments
 pub mod Refusing
 pub mod OtherSpellings
 pub mod Changing

@@ -285,56 +285,56 @@ module _ (terms : Terms) (before : List Heard) (h : Heard) (old : Spellings)
     (are : AreSpellings terms old (heard_events before)) (kept_here : rule_of terms before h ≡ None)
     (call : Call) (says : call_at (kept_before terms before) h.note.event ≡ Some call)
     (new : Spellings) where
-  abbrev events : List Event
-  events = heard_events before
+  abbrev earlier : List Event
+  earlier = heard_events before
 
-  abbrev own : List Call
-  own = calls (kept_of terms events)
+  abbrev made : List Call
+  made = calls (kept_of terms earlier)
 
   -- nothing, where its document is open, or where it is a snapshot
-  none_by : (p : EventPlace) (e : Event) → call_at (kept_of terms events) e ≡ Some call
-      → unopened_by terms own call ≡ None
-      → option_and_then (spelling_by terms events p) (sent_of e) ≡ None
+  none_by : (p : EventPlace) (e : Event) → call_at (kept_of terms earlier) e ≡ Some call
+      → unopened_by terms made call ≡ None
+      → option_and_then (spelling_by terms earlier p) (sent_of e) ≡ None
   none_by p (message m) so none =
-      ap (λ (o : Option Call). option_and_then (spelling_note terms events p)
-      (unopened_in terms own o m)) so
-      ∙ ap (option_and_then (spelling_note terms events p)) none
+      ap (λ (o : Option Call). option_and_then (spelling_note terms earlier p)
+      (unopened_in terms made o m)) so
+      ∙ ap (option_and_then (spelling_note terms earlier p)) none
   none_by p (fault side rule) so none = absurd (cc so)
   none_by p (snapshot uri number text) so none = refl
 
   -- **one of which the document is open, or of a snapshot**
-  pub called_none : new.named ≡ old.named → unopened_by terms own call ≡ None
+  pub called_none : new.named ≡ old.named → unopened_by terms made call ≡ None
       → AreSpellings terms new (heard_events (before ++ h ∷ []))
   called_none same none =
-      let p = place_of events h.note.event in
+      let p = place_of earlier h.note.event in
       subst (AreSpellings terms new) (sym (events-push before h))
-      (spellings_more terms events h.note.event kept_here old new None are
+      (spellings_more terms earlier h.note.event kept_here old new None are
       (none_by p h.note.event says none) (ap (λ v. notes_view v.items) same))
 
   -- an opening or a save is a message
   one_by : (p : EventPlace) (uri : List ℕ) (e : Event)
-      → call_at (kept_of terms events) e ≡ Some call → unopened_by terms own call ≡ Some uri
-      → option_and_then (spelling_by terms events p) (sent_of e) ≡ spelling_note terms events p uri
+      → call_at (kept_of terms earlier) e ≡ Some call → unopened_by terms made call ≡ Some uri
+      → option_and_then (spelling_by terms earlier p) (sent_of e) ≡ spelling_note terms earlier p uri
   one_by p uri (message m) so one =
-      ap (λ (o : Option Call). option_and_then (spelling_note terms events p)
-      (unopened_in terms own o m)) so
-      ∙ ap (option_and_then (spelling_note terms events p)) one
+      ap (λ (o : Option Call). option_and_then (spelling_note terms earlier p)
+      (unopened_in terms made o m)) so
+      ∙ ap (option_and_then (spelling_note terms earlier p)) one
   one_by p uri (fault side rule) so one = absurd (cc so)
   one_by p uri (snapshot shown number text) so one =
-      let none : unopened_by terms own call ≡ None =
-      subst (λ (o : Option Call). option_and_then (unopened_by terms own) o ≡ None) so refl in
+      let none : unopened_by terms made call ≡ None =
+      subst (λ (o : Option Call). option_and_then (unopened_by terms made) o ≡ None) so refl in
       absurd (cc (none, one))
 
   -- **one that names a document that is not open**
-  pub called_one : (p : EventPlace) (uri : List ℕ) → p ≡ place_of events h.note.event
-      → unopened_by terms own call ≡ Some uri
+  pub called_one : (p : EventPlace) (uri : List ℕ) → p ≡ place_of earlier h.note.event
+      → unopened_by terms made call ≡ Some uri
       → notes_view new.named.items
-      ≡ with_note (notes_view old.named.items) (spelling_note terms events p uri)
+      ≡ with_note (notes_view old.named.items) (spelling_note terms earlier p uri)
       → AreSpellings terms new (heard_events (before ++ h ∷ []))
   called_one p uri at one noted =
       subst (AreSpellings terms new) (sym (events-push before h))
-      (spellings_more terms events h.note.event kept_here old new
-      (spelling_note terms events p uri) are
-      (ap (λ (q : EventPlace). option_and_then (spelling_by terms events q)
+      (spellings_more terms earlier h.note.event kept_here old new
+      (spelling_note terms earlier p uri) are
+      (ap (λ (q : EventPlace). option_and_then (spelling_by terms earlier q)
       (sent_of h.note.event)) (sym at)
       ∙ one_by p uri h.note.event says one) noted)

@@ -6,6 +6,7 @@ use Rattle.std.specs.List.{cons_option}
 use Rattle.std.proofs.Common.{◌≡◌, ◌<◌, ℕ, true, false, List, [], ◌∷◌, ◌++◌, Option, Some, None}
 use Rattle.std.proofs.Common.{refl, sym, ap, ◌∙◌, subst, append-nil, arith}
 use Rattle.lsp_docs.specs.Calls.{Call}
+use Rattle.serde_json.specs.Data.{Data}
 use Rattle.lsp_docs.specs.Documents.{Terms}
 use Rattle.lsp_rpc.specs.Ident.{Ident}
 use Rattle.lsp_rpc.specs.Message.{Message, request, notification, response, result, error}
@@ -42,7 +43,7 @@ use Rattle.lsp_explain.specs.declared.notes.refusals.Refusals.{Refusals}
 use Rattle.lsp_explain.specs.declared.notes.requests.Request as code
 use Rattle.lsp_explain.proofs.DocumentNoting.{first_notes_with}
 use Rattle.lsp_explain.proofs.History.{held-push, kept_more}
-use Rattle.lsp_explain.proofs.Naming.{names_so}
+use Rattle.lsp_explain.proofs.NamedDocuments.{names_so}
 use Rattle.lsp_explain.proofs.Standard.{on_document as said_on}
 
 -- ---- one event more

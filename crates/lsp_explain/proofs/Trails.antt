@@ -1,7 +1,7 @@
 -- The trail once one more event was told.
 use Rattle.std.specs.Borrow.{Bor}
 use Rattle.std.specs.Prelude.{Bool, option_and_then, option_map, Result, Ok, Err, OnOk}
-use Rattle.std.specs.List.{cons_option}
+use Rattle.std.specs.List.{cons_option, last_or}
 use Rattle.std.specs.Option.{option_or}
 use Rattle.std.proofs.Common.{◌≡◌, ℕ, List, [], ◌∷◌, ◌++◌, Option, Some, None, refl, sym, ap, ◌∙◌}
 use Rattle.std.proofs.Common.{append-nil, map, subst}
@@ -41,8 +41,7 @@ use Rattle.lsp_explain.specs.Openings.{Holds, OpenedBy, ons_view}
 use Rattle.lsp_explain.specs.Renames.{RenamesIn, moves_view, renamed_by, renamed_held}
 use Rattle.lsp_explain.specs.Conversations.{IsConversation, Says}
 use Rattle.lsp_explain.specs.Saves.{AreSaves, event_save, most_saves, save_by, saves_unopened}
-use Rattle.lsp_explain.specs.LastChanges.{AreChanges, HoldsChanges, change_by, change_view}
-use Rattle.lsp_explain.specs.LastChanges.{event_change, most_changes, sent_changes}
+use Rattle.lsp_explain.specs.LastChange.{IsLastChange, change_by, event_change, last_view}
 use Rattle.lsp_explain.specs.Trails.{IsTrail, Keeps}
 use Rattle.lsp_explain.specs.declared.trail.marks.Marks.{Marks}
 use Rattle.lsp_explain.specs.declared.trail.openings.Openings.{Openings}
@@ -53,6 +52,7 @@ use Rattle.lsp_explain.specs.declared.trail.step.Step.{Step}
 use Rattle.lsp_explain.specs.declared.trail.bases.Bases.{Bases}
 use Rattle.lsp_explain.proofs.Basing.{HoldAll}
 use Rattle.lsp_explain.proofs.BasingShown.{hold_more, hold_same}
+use Rattle.lsp_explain.proofs.Changing.{last_more}
 use Rattle.lsp_explain.proofs.History.{kept_more, refused_more}
 use Rattle.lsp_explain.proofs.Quiet.{call_taken}
 use Rattle.lsp_explain.proofs.SessionSteps.{message_taken, refused_unsaid}
@@ -109,7 +109,7 @@ module _ (terms : Terms) (before : List Heard) (h : Heard) (old : Trail)
             old.bases.map.entries) (sym same)
             (subst (λ es. HoldAll terms (calls es) (kept_calls terms events) old.bases.map.entries)
             (sym (kept-refused terms events h.note.event rule offends)) is.based);
-        changed = is.changed ∙ ap (last_ones most_changes)
+        changed = is.changed ∙ ap (last_or None)
             (sym (refused_more event_change terms events h.note.event rule offends));
         saved = is.saved ∙ ap (last_ones most_saves)
             (sym (refused_more (event_save terms) terms events h.note.event rule offends));
@@ -124,7 +124,7 @@ module _ (terms : Terms) (before : List Heard) (h : Heard) (old : Trail)
         → Keeps more old.marks old.openings new.marks new.openings
         → HoldAll terms (calls (kept_of terms (events ++ h.note.event ∷ [])))
         (kept_calls terms events ++ cons_option more []) new.bases.map.entries
-        → AreChanges terms new.changes (events ++ h.note.event ∷ [])
+        → IsLastChange terms new.last_change (events ++ h.note.event ∷ [])
         → AreSaves terms new.saves (events ++ h.note.event ∷ [])
         → IsConversation terms new.said (events ++ h.note.event ∷ [])
         → IsTrail terms new (heard_events (before ++ h ∷ []))
@@ -218,15 +218,14 @@ module _ (terms : Terms) (before : List Heard) (h : Heard) (old : Trail)
         → HoldAll terms (calls (kept_of terms events) ++ call ∷ [])
         (kept_calls terms events ++ cons_option (call_kept place call took) [])
         new.bases.map.entries
-        → HoldsChanges (cons_option (change_by place call) []) old.changes.sent.items
-        new.changes.sent.items
+        → last_view new.last_change ≡ option_or (change_by place call) (last_view old.last_change)
         → Holds most_saves (cons_option (save_by terms (calls (kept_before terms before)) place call)
         []) old.saves.saved.items new.saves.saved.items
         → new.said ≡ record old.said { renames = r } → r.moves ≡ old.said.renames.moves
         → renamed_held r ≡ option_or (renamed_held old.said.renames)
         (renamed_by place (moves_view old.said.renames.moves.items) call)
         → IsTrail terms new (heard_events (before ++ h ∷ []))
-    trail_called call took r reads says told keeps based changes saves same moves renamed =
+    trail_called call took r reads says told keeps based changed saves same moves renamed =
         kept_so (call_kept place call took)
         (ap (option_and_then (λ one. call_kept place one
         (took_by terms (calls (kept_of terms events)) one))) says
@@ -234,9 +233,10 @@ module _ (terms : Terms) (before : List Heard) (h : Heard) (old : Trail)
         (subst (λ cs. HoldAll terms cs
         (kept_calls terms events ++ cons_option (call_kept place call took) [])
         new.bases.map.entries) (sym (calls_with call says)) based)
-        (changes (sent_changes terms events) is.changed
-        ∙ ap (last_ones most_changes) (sym (kept_more event_change terms events h.note.event place
-        (change_by place call) kept_here at (ap (option_and_then (change_by place)) says))))
+        (changed ∙ ap (option_or (change_by place call)) is.changed
+        ∙ last_more (change_by place call) _ _
+        (kept_more event_change terms events h.note.event place (change_by place call) kept_here at
+        (ap (option_and_then (change_by place)) says)))
         (saves (saves_unopened terms events) is.saved
         ∙ ap (last_ones most_saves) (sym (kept_more (event_save terms) terms events h.note.event
         place (save_by terms (calls (kept_of terms events)) place call) kept_here at
@@ -251,13 +251,13 @@ module _ (terms : Terms) (before : List Heard) (h : Heard) (old : Trail)
         → IsSpoken (kept_before terms before) h.note.event by s
         → call_at (kept_before terms before) h.note.event ≡ None
         → new.marks ≡ old.marks → new.openings ≡ old.openings → new.bases ≡ old.bases
-        → new.changes ≡ old.changes → new.saves ≡ old.saves
+        → new.last_change ≡ old.last_change → new.saves ≡ old.saves
         → Says place side (message_view s.message)
         (phase (sent_in (kept_of terms (heard_events (before ++ h ∷ [])))))
         (is_done (sent_in (kept_of terms (heard_events (before ++ h ∷ []))))) old.said new.said
         → RenamesIn place side bytes (message_view s.message) None old.said.renames new.said.renames
         → IsTrail terms new (heard_events (before ++ h ∷ []))
-    trail_said side bytes by s reads spoken says marks openings bases changes saves told renamed =
+    trail_said side bytes by s reads spoken says marks openings bases last saves told renamed =
         let sent = spoken.sent in
         let own = subst (λ (e : Event). Reads (content side bytes) e) spoken.is reads in
         let all : heard_events (before ++ h ∷ []) ≡ events ++ message sent ∷ [] =
@@ -285,10 +285,10 @@ module _ (terms : Terms) (before : List Heard) (h : Heard) (old : Trail)
         (sym (calls_without says))
         (subst (λ ks. HoldAll terms (calls (kept_of terms events)) ks old.bases.map.entries)
         (sym (append-nil (kept_calls terms events))) is.based)))
-        (ap (λ c. map change_view c.sent.items) changes ∙ is.changed
-        ∙ ap (last_ones most_changes) (sym (kept_more event_change terms events h.note.event place
-        None kept_here at (ap (option_and_then (change_by place)) says)
-        ∙ append-nil (sent_changes terms events))))
+        (ap last_view last ∙ is.changed
+        ∙ last_more None _ _
+        (kept_more event_change terms events h.note.event place None kept_here at
+        (ap (option_and_then (change_by place)) says)))
         (ap (λ s. ons_view s.saved.items) saves ∙ is.saved
         ∙ ap (last_ones most_saves) (sym (kept_more (event_save terms) terms events h.note.event
         place None kept_here at

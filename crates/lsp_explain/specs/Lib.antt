@@ -4,7 +4,7 @@ pub mod Marking
 pub mod Openings
 pub mod Naming
 pub mod Saves
-pub mod LastChanges
+pub mod LastChange
 pub mod StandardMethods
 pub mod SessionNotes
 pub mod Renames

@@ -43,7 +43,7 @@ use Rattle.lsp_explain.specs.declared.suspects.Until.{Until}
 use Rattle.lsp_explain.specs.declared.suspects.Until.TheVariants as until
 use Rattle.lsp_explain.specs.Openings.{closing_of, closings, last_on, most_openings, openings}
 use Rattle.lsp_explain.specs.Saves.{saved_unopened}
-use Rattle.lsp_explain.specs.LastChanges.{SentChange, has_changes, last_changes}
+use Rattle.lsp_explain.specs.LastChange.{SentChange, has_changes, last_change}
 use Rattle.lsp_explain.specs.declared.trail.openings.Closing.{Closing}
 use Rattle.lsp_explain.specs.declared.trail.openings.Closing.TheVariants as closing
 use Rattle.lsp_explain.specs.Asking.{Numbered, answered, asked, numbered, sents, since}
@@ -201,9 +201,9 @@ unopened_traced terms before rule uri =
 abbrev pub is_below : ℤ → VersionEvent → Bool
 is_below number setter = int_lt setter.version number
 
--- the event of this place, where it has the same changes
-abbrev pub same_facts : EventPlace → List Edit → List SentChange → List Fact
-same_facts p edits sent = if has_changes p edits sent then cited (codes "same") p ∷ [] else []
+-- the event of this place, where it is the last one that changed a document and has the same changes
+abbrev pub same_facts : EventPlace → List Edit → Option SentChange → List Fact
+same_facts p edits last = if has_changes p edits last then cited (codes "same") p ∷ [] else []
 
 -- the message that set a greater version, where this many are known that set a lesser one
 abbrev pub precedes_facts : ℕ → VersionEvent → List Fact
@@ -212,25 +212,25 @@ precedes_facts below setter =
     else version_by (codes "precedes") setter.version setter.place ∷ []
 
 -- the first of the messages that set this version or a greater one
-abbrev pub setter_facts : ℤ → List Edit → List SentChange → ℕ → Option VersionEvent → List Fact
-setter_facts number edits sent below None = []
-setter_facts number edits sent below (Some setter) =
-    if int_eq setter.version number then same_facts setter.place edits sent
+abbrev pub setter_facts : ℤ → List Edit → Option SentChange → ℕ → Option VersionEvent → List Fact
+setter_facts number edits last below None = []
+setter_facts number edits last below (Some setter) =
+    if int_eq setter.version number then same_facts setter.place edits last
     else precedes_facts below setter
 
-abbrev pub unrisen_facts : ℤ → List Edit → List SentChange → List VersionEvent → List Fact
-unrisen_facts number edits sent done =
+abbrev pub unrisen_facts : ℤ → List Edit → Option SentChange → List VersionEvent → List Fact
+unrisen_facts number edits last done =
     let below = prefix_len (is_below number) done in
-    setter_facts number edits sent below (slice_get (drop below done) 0)
+    setter_facts number edits last below (slice_get (drop below done) 0)
 
 -- of a call that changes a document
 abbrev pub change_traced : Terms → List Event → Call → List Fact
 change_traced terms before (changes enc kind uri number edits) =
-    unrisen_facts number edits (last_changes terms before) (recent (steps terms uri before))
+    unrisen_facts number edits (last_change terms before) (recent (steps terms uri before))
 change_traced terms before _ = []
 
--- **the message of this opening that set the version of such a call, if it has the same changes**;
--- where none set it, the first that set a greater one
+-- **the message of this opening that set the version of such a call, if it is the last one that
+-- changed a document, and has the same changes**; where none set it, the first that set a greater one
 abbrev pub unrisen_traced : Terms → List Event → ℕ → Call → List Fact
 unrisen_traced terms before rule call =
     if rule == rules.VERSION_DOES_NOT_RISE then change_traced terms before call else []

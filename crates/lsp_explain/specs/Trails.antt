@@ -10,7 +10,7 @@ use Rattle.lsp_explain.specs.History.{KeptCall}
 use Rattle.lsp_explain.specs.Marking.{AreMarks, MarkedBy}
 use Rattle.lsp_explain.specs.Openings.{AreOpenings, OpenedBy}
 use Rattle.lsp_explain.specs.Saves.{AreSaves}
-use Rattle.lsp_explain.specs.LastChanges.{AreChanges}
+use Rattle.lsp_explain.specs.LastChange.{IsLastChange}
 use Rattle.lsp_explain.specs.Conversations.{IsConversation}
 use Rattle.lsp_explain.specs.declared.trail.marks.Marks.{Marks}
 use Rattle.lsp_explain.specs.declared.trail.openings.Openings.{Openings}
@@ -24,7 +24,7 @@ pub record IsTrail (terms : Terms) (t : Trail) (events : List Event) : Type 0 wh
   pub marked : AreMarks terms t.marks.map.entries events
   pub opened : AreOpenings terms t.openings events
   pub based : AreBases terms t.bases.map.entries events
-  pub changed : AreChanges terms t.changes events
+  pub changed : IsLastChange terms t.last_change events
   pub saved : AreSaves terms t.saves events
   pub said : IsConversation terms t.said events
 

@@ -2,7 +2,7 @@
 //! them led to what. No event is judged here, and no log is read.
 //!
 //! [`Marks`] says which events left a document as it is, [`Openings`] which opened and closed
-//! documents last, [`Bases`] which texts and changes some had last, [`Changes`] which messages
+//! documents last, [`Bases`] which texts and changes some had last, [`LastChange`] which message
 //! changed some and how, [`Saves`] which saved some that were not open, and [`Conversation`] by
 //! which requests were asked and answered, which led to the phase, and what the notes say of the
 //! messages.
@@ -19,9 +19,9 @@ ghost use Rattle.lsp_explain.specs.Trails.{IsTrail, Keeps};
 mod asked;
 mod base;
 mod bases;
-mod changes;
 mod conversation;
 mod exchange;
+mod last_change;
 mod last_ones;
 mod mark;
 mod marks;
@@ -37,8 +37,8 @@ use crate::trail::saves::Saves;
 use crate::trail::step::{Step, step_of};
 pub(crate) use base::{Base, SentChanges};
 pub(crate) use bases::Bases;
-pub(crate) use changes::Changes;
 pub(crate) use conversation::Conversation;
+pub(crate) use last_change::LastChange;
 pub(crate) use last_ones::push_within;
 use lsp_replay::{EventPlace, Events, Fate, Seen};
 use lsp_rpc::{Result, Spoken};
@@ -57,7 +57,7 @@ pub(crate) struct Trail {
     pub(crate) marks: Marks,
     pub(crate) openings: Openings,
     pub(crate) bases: Bases,
-    pub(crate) changes: Changes,
+    pub(crate) last_change: LastChange,
     pub(crate) saves: Saves,
     pub(crate) said: Conversation,
 }
@@ -78,7 +78,7 @@ impl Trail {
             marks: Marks::new(alloc),
             openings: Openings::new(alloc),
             bases: Bases::new(alloc),
-            changes: Changes::new(alloc),
+            last_change: LastChange::new(alloc),
             saves: Saves::new(alloc),
             said: Conversation::new(alloc),
         }
@@ -103,7 +103,7 @@ impl Trail {
             return self.keep_message(held, seen.raw, seen.spoken);
         };
         let place = EventPlace::last(&held.counts, seen.raw.who());
-        self.changes.keep(&place, call)?;
+        self.last_change.keep(&place, call)?;
         self.saves.keep(&held.docs, &place, call)?;
         let Some(step) = step_of(call, took) else {
             return Ok(());

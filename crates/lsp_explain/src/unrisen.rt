@@ -4,13 +4,13 @@ ghost use Rattle.std.specs.List.{prefix_len};
 ghost use Rattle.lsp_docs.specs.Documents.{Terms};
 ghost use Rattle.lsp_docs.specs.Taken.{call_view};
 ghost use Rattle.lsp_explain.specs.Marking.{recent, steps};
-ghost use Rattle.lsp_explain.specs.LastChanges.{AreChanges, last_changes};
+ghost use Rattle.lsp_explain.specs.LastChange.{IsLastChange, last_change};
 ghost use Rattle.lsp_explain.specs.Traced as spec;
 ghost use Rattle.lsp_explain.specs.Trails.{StandsAfter, terms_in};
 ghost use Rattle.lsp_text.specs.Changes.{edits_of};
 ghost use Rattle.lsp_verdict.specs.Event.{Event};
 
-use crate::trail::{Changes, Past, VersionEvent};
+use crate::trail::{LastChange, Past, VersionEvent};
 use lsp_docs::Call;
 use lsp_facts::Facts;
 use lsp_replay::EventPlace;
@@ -18,8 +18,8 @@ use lsp_rpc::Result;
 use lsp_types::{Change, rules};
 
 /// Adds to the facts on a call that breaks this rule, under 603, the message that set its version,
-/// if that has the same changes; or, where none did, the first that set a greater one. The past is
-/// of the events before it.
+/// if that is the last one that changed a document, and has the same changes; or, where none set
+/// it, the first that set a greater one. The past is of the events before it.
 pub(crate) fn trace_unrisen(
     facts: &mut Facts,
     past: Past<'_>,
@@ -55,49 +55,51 @@ fn trace_change(
 ) -> Result<()>
     ensures { OnOk result ((before : List Event) → StandsAfter past.entry before
         → facts.new ≡ facts.old ++ spec.unrisen_facts version (edits_of changes.now)
-        (last_changes (terms_in past.entry) before)
+        (last_change (terms_in past.entry) before)
         (recent (steps (terms_in past.entry) uri.now before))) }
 {
     let setters = past.trail.marks.setters(uri)?;
-    let sent = &past.trail.changes;
-    push_unrisen(facts, sent, version, changes, setters.as_slice())
+    let last = &past.trail.last_change;
+    push_unrisen(facts, last, version, changes, setters.as_slice())
 }
 
 /// Adds the same after these messages, which set the versions of the document.
 fn push_unrisen(
     facts: &mut Facts,
-    sent: &Changes,
+    last: &LastChange,
     version: i32,
     changes: &[Change],
     setters: &[VersionEvent],
 ) -> Result<()>
-    ensures { OnOk result ((terms : Terms) (before : List Event) → AreChanges terms sent.now before
+    ensures { OnOk result ((terms : Terms) (before : List Event)
+        → IsLastChange terms last.now before
         → facts.new ≡ facts.old ++ spec.unrisen_facts version (edits_of changes.now)
-        (last_changes terms before) setters.now) }
+        (last_change terms before) setters.now) }
 {
     let below = count_below(version, setters);
     match setters[below..].first() {
-        Some(setter) => push_setter(facts, sent, version, changes, below, *setter),
+        Some(setter) => push_setter(facts, last, version, changes, below, *setter),
         None => Ok(()),
     }
 }
 
-/// Adds the message that set this version, if it has the same changes, or that set a greater one.
-/// So many are known that set a lesser one.
+/// Adds the message that set this version, if it is the last one that changed a document and has
+/// the same changes, or that set a greater one. So many are known that set a lesser one.
 fn push_setter(
     facts: &mut Facts,
-    sent: &Changes,
+    last: &LastChange,
     version: i32,
     changes: &[Change],
     below: usize,
     setter: VersionEvent,
 ) -> Result<()>
-    ensures { OnOk result ((terms : Terms) (before : List Event) → AreChanges terms sent.now before
+    ensures { OnOk result ((terms : Terms) (before : List Event)
+        → IsLastChange terms last.now before
         → facts.new ≡ facts.old ++ spec.setter_facts version (edits_of changes.now)
-        (last_changes terms before) below (Some setter)) }
+        (last_change terms before) below (Some setter)) }
 {
     if setter.version == version {
-        return push_same(facts, sent, setter.place, changes);
+        return push_same(facts, last, setter.place, changes);
     }
     push_precedes(facts, below, setter)
 }
@@ -113,13 +115,20 @@ fn count_below(version: i32, setters: &[VersionEvent]) -> usize
         .count()
 }
 
-/// Adds the event of this place, if it has the same changes.
-fn push_same(facts: &mut Facts, sent: &Changes, place: EventPlace, changes: &[Change]) -> Result<()>
-    ensures { OnOk result ((terms : Terms) (before : List Event) → AreChanges terms sent.now before
+/// Adds the event of this place, if it is the last message that changed a document, and has the
+/// same changes.
+fn push_same(
+    facts: &mut Facts,
+    last: &LastChange,
+    place: EventPlace,
+    changes: &[Change],
+) -> Result<()>
+    ensures { OnOk result ((terms : Terms) (before : List Event)
+        → IsLastChange terms last.now before
         → facts.new ≡ facts.old ++ spec.same_facts place (edits_of changes.now)
-        (last_changes terms before)) }
+        (last_change terms before)) }
 {
-    if !sent.has_changes(place, changes) {
+    if !last.has_changes(place, changes) {
         return Ok(());
     }
     facts.event("same", place)

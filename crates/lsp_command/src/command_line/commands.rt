@@ -5,6 +5,7 @@ ghost use Rattle.lsp_command.specs.CommandLine.{AreModes, IsArg, IsCommandLine, 
 ghost use Rattle.lsp_command.specs.CommandLine.{check_options, event, text_options};
 ghost use Rattle.lsp_command.specs.CommandLine.{explain, file, files, flag, frames, mode, normal};
 ghost use Rattle.lsp_command.specs.CommandLine.{explain_options, ignore_line_ends, json};
+ghost use Rattle.lsp_command.specs.CommandLine.{show_options};
 ghost use Rattle.lsp_command.specs.CommandLine.{number, program, quiet, show, text, upgrade, uri};
 
 use clap::{Arg, ArgAction, Command, value_parser};
@@ -173,7 +174,7 @@ fn check<'a>(alloc: Global) -> Result<Command<'a>, AllocError>
         .arg(log_files(alloc))
 }
 
-/// The command with its own options, and without those that every command has.
+/// The command with the first of its options.
 fn explain_options<'a>(alloc: Global) -> Result<Command<'a>, AllocError>
     ensures { IfOk result (λ command. shape_of command ≡ explain_options) }
 {
@@ -189,18 +190,18 @@ fn explain_options<'a>(alloc: Global) -> Result<Command<'a>, AllocError>
             "all",
             "Explains every violation that check --all lists",
         ))?
-        .arg(ignore_line_ends(alloc))
+        .arg(ignore_line_ends(alloc))?
+        .arg(flag(
+            alloc,
+            "by-messages",
+            "Writes only the text that the messages produce (608, 702)",
+        ))
 }
 
 fn explain<'a>(alloc: Global) -> Result<Command<'a>, AllocError>
     ensures { IfOk result (λ command. shape_of command ≡ explain) }
 {
     explain_options(alloc)?
-        .arg(flag(
-            alloc,
-            "by-messages",
-            "Writes only the text that the messages produce (608, 702)",
-        ))?
         .arg(flag(
             alloc,
             "in-editor",
@@ -211,8 +212,9 @@ fn explain<'a>(alloc: Global) -> Result<Command<'a>, AllocError>
         .arg(log_file(alloc))
 }
 
-fn show<'a>(alloc: Global) -> Result<Command<'a>, AllocError>
-    ensures { IfOk result (λ command. shape_of command ≡ show) }
+/// The command with its own options, and without those that other commands have too.
+fn show_options<'a>(alloc: Global) -> Result<Command<'a>, AllocError>
+    ensures { IfOk result (λ command. shape_of command ≡ show_options) }
 {
     Command::new(alloc, "show")
         .about("Lists the events of a recorded session, then reports the verdict")
@@ -225,7 +227,13 @@ fn show<'a>(alloc: Global) -> Result<Command<'a>, AllocError>
             alloc,
             "long",
             "Adds each side's own numbers, and the URI and version of documents",
-        ))?
+        ))
+}
+
+fn show<'a>(alloc: Global) -> Result<Command<'a>, AllocError>
+    ensures { IfOk result (λ command. shape_of command ≡ show) }
+{
+    show_options(alloc)?
         .arg(json(alloc))?
         .arg(quiet(alloc))?
         .arg(log_file(alloc))

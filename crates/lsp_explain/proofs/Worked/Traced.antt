@@ -206,7 +206,8 @@ saved_before = refl
 -- ---- a version that does not rise
 
 abbrev PUT : List ℕ → List ℕ → Event
-PUT version text = CHG version (REP (codes "0") (codes "0") (codes "0") (codes "1") text)
+PUT version letters =
+    CHG version (REP (codes "0") (codes "0") (codes "0") (codes "1") letters)
 
 sent_twice : with_events 603
     (START ++ OPEN (codes "1") (codes "ab") ∷ PUT (codes "2") (codes "x") ∷ [])
@@ -221,6 +222,14 @@ of_another_text : with_events 603
 unfolding value punctuate lex content word after_number number_of scan_numeral chars digits
     escape_byte
 of_another_text = refl
+
+-- another change came after it
+not_the_last : with_events 603
+    (START ++ OPEN (codes "1") (codes "ab") ∷ PUT (codes "2") (codes "x") ∷ PUT (codes "3")
+    (codes "x") ∷ []) (PUT (codes "2") (codes "x")) ≡ []
+unfolding value punctuate lex content word after_number number_of scan_numeral chars digits
+    escape_byte
+not_the_last = refl
 
 exchanged : with_events 603
     (START ++ OPEN (codes "1") (codes "ab") ∷ PUT (codes "3") (codes "x") ∷ PUT (codes "4")

@@ -1,7 +1,7 @@
 //! Which documents were opened and closed last, which were changed, and of which there is a
 //! snapshot.
 ghost use Rattle.std.specs.Prelude.{◌≡◌, ◌++◌, ◌∷◌, ◌<◌, [], List, IfOk, OnOk, option_map};
-ghost use Rattle.std.specs.Prelude.{string_bytes};
+ghost use Rattle.std.specs.Prelude.{IsTrue, string_bytes, true};
 ghost use Rattle.std.specs.List.{list_any};
 ghost use Rattle.std.specs.Str.{bytes_eq};
 ghost use Rattle.lsp_docs.specs.Documents.{Terms};
@@ -196,9 +196,30 @@ fn others(alloc: Global, names: &[String], known: &[String]) -> Result<Vec<Strin
     Ok(found)
 }
 
-/// Adds a document, where it is another one and there is room.
-#[inline(never)]
+/// Adds a document, where it is another one and there is room. Mostly it is the first one.
+#[inline(always)]
 fn add(names: &mut Vec<String>, uri: &str) -> Result<()>
+    ensures { OnOk result (names_view names.new.items
+        ≡ with_name (names_view names.old.items) uri.now) }
+{
+    if is_first(names.as_slice(), uri) {
+        return Ok(());
+    }
+    add_other(names, uri)
+}
+
+#[inline(always)]
+fn is_first(names: &[String], uri: &str) -> bool
+    ensures { IsTrue result → has_name uri.now (names_view names.now) ≡ true }
+{
+    match names.first() {
+        Some(name) => name.as_str() == uri,
+        None => false,
+    }
+}
+
+#[inline(never)]
+fn add_other(names: &mut Vec<String>, uri: &str) -> Result<()>
     ensures { OnOk result (names_view names.new.items
         ≡ with_name (names_view names.old.items) uri.now) }
 {

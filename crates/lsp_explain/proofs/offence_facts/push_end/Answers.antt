@@ -21,7 +21,7 @@ returns c = on_ok_weaker c.push_details.result (λ says before stands.
     let old = string_bytes c.args.text.now in
     let line = end_event end.event end.who in
     let before_it = string_bytes c.push_end_event.new.lines in
-    let rest = c.rest.ensures ∙ ap (λ s. (decoder_of s c.args.log.now.streams).rest) c.side_by.ensures
+    let rest = c.rest-rest.ensures ∙ ap (λ s. (decoder_of s c.args.log.now.streams).rest) c.side_by.ensures
     ∙ held_rest c.args.log.now (side_by end.who) in
     let who = end_usually rests v in
     says

@@ -1,7 +1,7 @@
 use Rattle.std.proofs.Common.{◌++◌, ◌∙◌, ap}
 use Rattle.std.proofs.lemmas.Result.{on_ok_weaker}
 use Rattle.lsp_text.specs.Changes.{edits_of}
-use Rattle.lsp_explain.specs.LastChanges.{last_changes}
+use Rattle.lsp_explain.specs.LastChange.{last_change}
 use Rattle.lsp_explain.specs.Traced.{unrisen_facts}
 use Rattle.lsp_explain.specs.Trails.{terms_in}
 use Rattle.lsp_explain.proofs.unrisen.trace_change.Goals as goal
@@ -11,6 +11,6 @@ returns c = on_ok_weaker c.push_unrisen.result (λ says before stands.
     let terms = terms_in c.args.past in
     says terms before stands.trail.changed
     ∙ ap (λ done. c.args.facts.now ++ unrisen_facts c.args.version (edits_of c.args.changes.now)
-    (last_changes terms before) done)
+    (last_change terms before) done)
     (c.as_slice.ensures.value ∙ c.in_ok-setters.ensures terms before stands.trail.marked))
     c.push_unrisen.ensures

@@ -13,7 +13,7 @@ use Rattle.lsp_explain.specs.DocumentNotes.{notes_view, with_note}
 use Rattle.lsp_explain.specs.Openings.{AreOpenings}
 use Rattle.lsp_explain.specs.Naming.{if_unopened}
 use Rattle.lsp_explain.specs.Spellings.{HoldsOthers, spelling_note}
-use Rattle.lsp_explain.proofs.Naming.{named_so, unnamed}
+use Rattle.lsp_explain.proofs.NamedDocuments.{named_so, unnamed}
 use Rattle.lsp_explain.proofs.OtherSpellings.{calls_after, named_none, named_one, others_stay}
 use Rattle.lsp_explain.proofs.OtherSpellings.{own_reads}
 use Rattle.lsp_explain.proofs.Trails.{is_message, no_content}
@@ -45,8 +45,8 @@ returns-then-not-may_name c = λ terms before h trail are stood kept noted spoke
     (sym c.may_name.ensures ∙ c.if-not-may_name.true)))
 
 -- it names no document
-pub returns-in_default-uri : goal.returns-in_default-uri
-returns-in_default-uri c = λ terms before h trail are stood kept noted spoken says.
+pub returns-in_default-2 : goal.returns-in_default-2
+returns-in_default-2 c = λ terms before h trail are stood kept noted spoken says.
     let side = c.in-Content.side in
     let bytes = c.in-Content.content.now in
     let reads = rw c.in-Content.is at noted.0 in
@@ -59,11 +59,11 @@ returns-in_default-uri c = λ terms before h trail are stood kept noted spoken s
     (ap (option_and_then (if_unopened terms own))
     (named_so side bytes heard.1.sent.message _ message heard.1.says
     (sym c.may_name.ensures ∙ c.if-not-may_name.false)
-    ∙ sym c.in_ok-uri.ensures ∙ ap (option_map string_bytes) c.in_default-uri.is))
+    ∙ sym c.in_ok-uri.ensures ∙ ap (option_map string_bytes) c.in_default-2.is))
 
 -- it is open
-pub returns-in_default-unopened : goal.returns-in_default-unopened
-returns-in_default-unopened c = λ terms before h trail are stood kept noted spoken says.
+pub returns-in_default-if_unopened : goal.returns-in_default-if_unopened
+returns-in_default-if_unopened c = λ terms before h trail are stood kept noted spoken says.
     let side = c.in-Content.side in
     let bytes = c.in-Content.content.now in
     let reads = rw c.in-Content.is at noted.0 in
@@ -77,9 +77,9 @@ returns-in_default-unopened c = λ terms before h trail are stood kept noted spo
     (ap (option_and_then (if_unopened terms own))
     (named_so side bytes heard.1.sent.message _ message heard.1.says
     (sym c.may_name.ensures ∙ c.if-not-may_name.false)
-    ∙ sym c.in_ok-uri.ensures ∙ ap (option_map string_bytes) c.in-Some-uri.is)
+    ∙ sym c.in_ok-uri.ensures ∙ ap (option_map string_bytes) c.in-Some-2.is)
     ∙ (λ i. if_unopened ((sym stood.by) i) ((sym stay) i) ((sym c.as_str.ensures.value) i))
-    ∙ sym (c.in_default-unopened.ensures _ stood.holds.called))
+    ∙ sym (c.in_default-if_unopened.ensures _ stood.holds.called))
 
 pub returns : goal.returns
 returns c = on_ok_weaker c.note.result (λ one terms before h trail are stood kept noted spoken says.
@@ -90,7 +90,7 @@ returns c = on_ok_weaker c.note.result (λ one terms before h trail are stood ke
     let reads = rw c.in-Content.is at noted.0 in
     let heard = rw c.in-Some.is at spoken in
     let own = calls (kept_of terms events) in
-    let uri = c.in-Some-unopened.unopened.now in
+    let uri = c.in-Some-if_unopened.unopened.now in
     let place = c.last-place.result in
     let at = c.last-place.ensures events h.note.event
     (subst (AreCounts c.args.held.now.counts) (events-push before h) stood.counted)
@@ -104,9 +104,9 @@ returns c = on_ok_weaker c.note.result (λ one terms before h trail are stood ke
     (ap (option_and_then (if_unopened terms own))
     (named_so side bytes heard.1.sent.message _ message heard.1.says
     (sym c.may_name.ensures ∙ c.if-not-may_name.false)
-    ∙ sym c.in_ok-uri.ensures ∙ ap (option_map string_bytes) c.in-Some-uri.is)
+    ∙ sym c.in_ok-uri.ensures ∙ ap (option_map string_bytes) c.in-Some-2.is)
     ∙ (λ i. if_unopened ((sym stood.by) i) ((sym stay) i) ((sym c.as_str.ensures.value) i))
-    ∙ sym (c.in-Some-unopened.ensures _ stood.holds.called))
+    ∙ sym (c.in-Some-if_unopened.ensures _ stood.holds.called))
     (subst (λ (t : Terms). AreOpenings t c.args.trail.now.openings events
     → HoldsOthers t uri (calls (kept_of t events)) made
     → notes_view c.note.new.self.named.items

@@ -2,7 +2,7 @@ use Rattle.std.proofs.Common.{◌∙◌}
 use Rattle.lsp_text.specs.Changes.{edits_of}
 use Rattle.lsp_explain.specs.SentEdits.{edits_size}
 use Rattle.lsp_explain.proofs.Changing.{small_so}
-use Rattle.lsp_explain.proofs.trail.changes.are_small.Goals as goal
+use Rattle.lsp_explain.proofs.trail.last_change.are_small.Goals as goal
 
 pub returns : goal.returns
 returns c =

@@ -1,7 +1,7 @@
 use Rattle.std.proofs.Common.{◌≡◌, length}
 use Rattle.lsp_text.specs.Changes.{edits_of}
-use Rattle.lsp_explain.specs.LastChanges.{same_edits}
-use Rattle.lsp_explain.proofs.trail.changes.same_changes.Given as goal
+use Rattle.lsp_explain.specs.LastChange.{same_edits}
+use Rattle.lsp_explain.proofs.trail.last_change.same_changes.Given as goal
 
 abbrev pub invariant-loop-first : goal.invariant-loop-first
 invariant-loop-first l =

@@ -1,7 +1,8 @@
--- The last messages that changed documents, with their changes.
-use Rattle.std.specs.Prelude.{◌≡◌, ◌&&◌, ℕ, List, [], ◌∷◌, ◌++◌, map, ◌==◌, Bool, true, false}
+-- The last message that changed a document, with its changes.
+use Rattle.std.specs.Prelude.{◌≡◌, ◌&&◌, ℕ, List, [], ◌∷◌, ◌==◌, Bool, true, false}
 use Rattle.std.specs.Prelude.{Option, Some, None, option_and_then, option_map}
 use Rattle.std.specs.Prelude.{if◌then◌else◌, nat_lt, not}
+use Rattle.std.specs.List.{last_or}
 use Rattle.std.specs.Str.{bytes_eq}
 use Rattle.lsp_docs.specs.Calls.{Call, changes}
 use Rattle.lsp_docs.specs.Documents.{Terms}
@@ -14,10 +15,9 @@ use Rattle.std.specs.declared.vec.Vec.{Vec}
 use Rattle.std.specs.Global.{Global}
 use Rattle.lsp_verdict.specs.Event.{call_at, Event}
 use Rattle.lsp_replay.specs.declared.heard.EventPlace.{EventPlace}
-use Rattle.lsp_explain.specs.History.{each_kept, last_ones, last_that}
+use Rattle.lsp_explain.specs.History.{each_kept}
 use Rattle.lsp_explain.specs.SentEdits.{edits_size}
-use Rattle.lsp_explain.specs.declared.trail.changes.ChangeEvent as code
-use Rattle.lsp_explain.specs.declared.trail.changes.Changes.{Changes}
+use Rattle.lsp_explain.specs.declared.trail.last_change.LastChange as code
 
 -- ---- messages that change documents
 
@@ -49,16 +49,13 @@ change_by p call = option_map (λ edits. sent_change p (held_edits edits)) (edit
 abbrev pub event_change : EventPlace → List Event → Event → Option SentChange
 event_change p before event = option_and_then (change_by p) (call_at before event)
 
--- **the messages that are kept and change documents**, in order
+-- the messages that are kept and change documents, in order
 abbrev pub sent_changes : Terms → List Event → List SentChange
 sent_changes terms events = each_kept event_change terms events
 
--- how many of the last ones are looked at
-abbrev pub most_changes : ℕ
-most_changes = 16
-
-abbrev pub last_changes : Terms → List Event → List SentChange
-last_changes terms events = last_ones most_changes (sent_changes terms events)
+-- **the last message that is kept and changes a document**
+abbrev pub last_change : Terms → List Event → Option SentChange
+last_change terms events = last_or None (sent_changes terms events)
 
 -- ---- the same changes
 
@@ -79,36 +76,25 @@ same_edits [] [] = true
 same_edits (x ∷ xs) (y ∷ ys) = same_edit x y && same_edits xs ys
 same_edits _ _ = false
 
-abbrev pub is_sent_at : EventPlace → SentChange → Bool
-is_sent_at p s = s.place.event == p.event
-
--- the changes of the one of these messages that is the event of this place
-abbrev pub edits_at : EventPlace → List SentChange → Option (List Edit)
-edits_at p sent = option_and_then (λ (s : SentChange). s.edits) (last_that (is_sent_at p) sent)
-
 -- these changes, where there are any
 abbrev pub are_edits : List Edit → Option (List Edit) → Bool
 are_edits edits None = false
 are_edits edits (Some own) = same_edits edits own
 
--- **the event of this place is one of these messages, and has these changes**
-abbrev pub has_changes : EventPlace → List Edit → List SentChange → Bool
-has_changes p edits sent = are_edits edits (edits_at p sent)
+-- **this message is the event of this place, and has these changes**
+abbrev pub has_changes : EventPlace → List Edit → Option SentChange → Bool
+has_changes p edits None = false
+has_changes p edits (Some s) = s.place.event == p.event && are_edits edits s.edits
 
--- ---- as they are held
+-- ---- as it is held
 
-abbrev pub held_view : Option (Vec Change Global) → Option (List Edit)
-held_view held = option_map (λ v. edits_of v.items) held
+-- these changes, if they are those of the message
+abbrev pub held_view : Bool → Vec Change Global → Option (List Edit)
+held_view are_held held = if are_held then Some (edits_of held.items) else None
 
-abbrev pub change_view : code.ChangeEvent → SentChange
-change_view s = sent_change s.place (held_view s.changes)
+abbrev pub last_view : code.LastChange → Option SentChange
+last_view l = option_map (λ p. sent_change p (held_view l.are_held l.changes)) l.place
 
--- these more are held, of which the last ones stay
-abbrev pub HoldsChanges : List SentChange → List code.ChangeEvent → List code.ChangeEvent → Type 0
-HoldsChanges more old new =
-    (sent : List SentChange) → map change_view old ≡ last_ones most_changes sent
-    → map change_view new ≡ last_ones most_changes (sent ++ more)
-
--- **the last ones of these events are held**
-abbrev pub AreChanges : Terms → Changes → List Event → Type 0
-AreChanges terms c events = map change_view c.sent.items ≡ last_changes terms events
+-- **the last one of these events is held**
+abbrev pub IsLastChange : Terms → code.LastChange → List Event → Type 0
+IsLastChange terms l events = last_view l ≡ last_change terms events
