@@ -201,7 +201,8 @@ unopened_traced terms before rule uri =
 abbrev pub is_below : ℤ → VersionEvent → Bool
 is_below number setter = int_lt setter.version number
 
--- the event of this place, where it is the last one that changed a document and has the same changes
+-- the event of this place, where it is the last one that changed a document, and has the same
+-- changes
 abbrev pub same_facts : EventPlace → List Edit → Option SentChange → List Fact
 same_facts p edits last = if has_changes p edits last then cited (codes "same") p ∷ [] else []
 
@@ -230,7 +231,8 @@ change_traced terms before (changes enc kind uri number edits) =
 change_traced terms before _ = []
 
 -- **the message of this opening that set the version of such a call, if it is the last one that
--- changed a document, and has the same changes**; where none set it, the first that set a greater one
+-- changed a document, and has the same changes**; where none set it, the first that set a greater
+-- one
 abbrev pub unrisen_traced : Terms → List Event → ℕ → Call → List Fact
 unrisen_traced terms before rule call =
     if rule == rules.VERSION_DOES_NOT_RISE then change_traced terms before call else []

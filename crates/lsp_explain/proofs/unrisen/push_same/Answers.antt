@@ -8,7 +8,7 @@ use Rattle.lsp_explain.proofs.unrisen.push_same.Goals as goal
 -- it has other changes
 pub returns-then-not-has_changes : goal.returns-then-not-has_changes
 returns-then-not-has_changes c = λ terms before are.
-    append-nil c.args.facts.now
+    sym (append-nil c.args.facts.now)
     ∙ ap (λ (b : Bool). c.args.facts.now
     ++ (if b then cited (codes "same") c.args.place ∷ [] else []))
     (sym c.if-not-has_changes.true ∙ c.has_changes.ensures terms before are)
