@@ -13,7 +13,7 @@ use Rattle.lsp_verdict.specs.Event.{Event}
 use Rattle.lsp_explain.specs.Bases.{HoldsAny, base_in, later, sent_in, text_in}
 use Rattle.lsp_explain.specs.Fits.{if_named, own_edits, reached, suspected}
 use Rattle.lsp_explain.specs.SentEdits.{SentEdits, are_few}
-use Rattle.lsp_explain.specs.Told.{fitting_any, setters_until, taken_otherwise, told, told_facts}
+use Rattle.lsp_explain.specs.Told.{fitting_any, setters_until, taken_any, told, told_facts}
 use Rattle.lsp_explain.specs.Told.{told_of}
 use Rattle.lsp_explain.specs.declared.suspects.Until.{Until}
 use Rattle.lsp_explain.specs.declared.suspects.Until.TheVariants as until
@@ -33,7 +33,7 @@ unsuspected base limit sent call many =
 
 abbrev told_any : Terms → Encoding → Text → List VersionEvent → List SentEdits → Text → List Fact
 told_any terms enc t setters sent other =
-    fits_fact (fitting_any terms enc t sent other) ++ taken_otherwise terms enc t setters sent other
+    fits_fact (fitting_any terms enc t sent other) ++ taken_any terms enc t setters sent other
 
 -- then nothing is said
 pub none_told : (terms : Terms) (enc : Encoding) (limit : Until) (setters : List VersionEvent)
@@ -137,9 +137,10 @@ no_own_setter (until.Message p number) done not = absurd (not p number refl)
 
 -- ---- the lines, one after another
 
-pub told_in_turn : (old a b c d : List Fact)
-    → old ++ a ++ b ++ c ++ d ≡ old ++ (a ++ (b ++ c ++ d))
-told_in_turn old a b c d =
-    ap (λ (l : List Fact). l ++ d) (append_assoc (old ++ a) b c)
-    ∙ append_assoc (old ++ a) (b ++ c) d
-    ∙ append_assoc old a (b ++ c ++ d)
+pub told_in_turn : (old a b c d e : List Fact)
+    → old ++ a ++ b ++ c ++ d ++ e ≡ old ++ (a ++ (b ++ c ++ d ++ e))
+told_in_turn old a b c d e =
+    ap (λ (l : List Fact). l ++ d ++ e) (append_assoc (old ++ a) b c)
+    ∙ ap (λ (l : List Fact). l ++ e) (append_assoc (old ++ a) (b ++ c) d)
+    ∙ append_assoc (old ++ a) (b ++ c ++ d) e
+    ∙ append_assoc old a (b ++ c ++ d ++ e)

@@ -13,6 +13,7 @@ pub mod SentEdits
 pub mod Bases
 pub mod Fits
 pub mod Rearranged
+pub mod OtherLines
 pub mod Told
 pub mod Traced
 pub mod AsciiLines

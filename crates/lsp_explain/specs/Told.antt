@@ -14,6 +14,7 @@ use Rattle.lsp_facts.specs.TwoTexts.{TwoTexts, texts_of}
 use Rattle.lsp_explain.specs.Bases.{base_at, sent_since}
 use Rattle.lsp_explain.specs.Fits.{fitting, is_given, suspected}
 use Rattle.lsp_explain.specs.Marking.{at_version, recent, steps}
+use Rattle.lsp_explain.specs.OtherLines.{lines_facts}
 use Rattle.lsp_explain.specs.Rearranged.{rearranged_facts}
 use Rattle.lsp_explain.specs.SentEdits.{SentEdits}
 use Rattle.lsp_explain.specs.declared.fits.Trial.{Trial}
@@ -35,18 +36,18 @@ setters_until limit done = done ++ own_setter limit
 
 -- ---- what they give
 
--- which of the messages would have to be taken otherwise for them to make the other text of this
--- one
+-- with which other line ends the messages make the other text of this one, and which of them would
+-- have to be taken otherwise
 abbrev pub taken_otherwise : Terms → Encoding → Text → List VersionEvent → List SentEdits → Text
     → List Fact
 taken_otherwise terms enc t setters sent other =
     let gives = λ (messages : List SentEdits). is_given terms t messages other enc in
-    rearranged_facts gives setters sent AtOnce
+    lines_facts terms enc t sent other
+    ++ rearranged_facts gives setters sent AtOnce
     ++ rearranged_facts gives setters sent Exchanged
     ++ rearranged_facts gives setters sent Without
 
--- **in which other encodings the messages make the other text of this one**, and which of them
--- would have to be taken otherwise
+-- **in which other encodings the messages make it, and how they would have to be taken otherwise**
 abbrev pub told : Terms → Encoding → Text → List VersionEvent → List SentEdits → Text → List Fact
 told terms enc t setters sent other =
     fits_fact (fitting terms enc t sent other) ++ taken_otherwise terms enc t setters sent other
@@ -58,10 +59,16 @@ told_by trial setters sent =
 
 -- ---- of a call
 
--- no encoding without a suspect
+-- nothing without a suspect
 abbrev pub fitting_any : Terms → Encoding → Text → List SentEdits → Text → List Encoding
 fitting_any terms enc t [] other = []
 fitting_any terms enc t (s ∷ more) other = fitting terms enc t (s ∷ more) other
+
+abbrev pub taken_any : Terms → Encoding → Text → List VersionEvent → List SentEdits → Text
+    → List Fact
+taken_any terms enc t setters [] other = []
+taken_any terms enc t setters (s ∷ more) other =
+    taken_otherwise terms enc t setters (s ∷ more) other
 
 -- where there is a base, and two texts differ
 abbrev pub fitting_of : Terms → Encoding → Until → List SentEdits → Call → Option Version
@@ -73,7 +80,7 @@ fitting_of terms enc limit sent call _ _ = []
 abbrev pub taken_of : Terms → Encoding → Until → List VersionEvent → List SentEdits → Call
     → Option Version → Option TwoTexts → List Fact
 taken_of terms enc limit setters sent call (Some base) (Some texts) =
-    taken_otherwise terms enc base.text setters (suspected base limit sent call) texts.in_editor
+    taken_any terms enc base.text setters (suspected base limit sent call) texts.in_editor
 taken_of terms enc limit setters sent call _ _ = []
 
 abbrev pub told_of : Terms → Encoding → Until → List VersionEvent → List SentEdits → Call

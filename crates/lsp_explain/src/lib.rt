@@ -17,6 +17,7 @@ mod laws;
 mod naming;
 mod notes;
 mod offence_facts;
+mod other_lines;
 mod rearranged;
 mod run;
 mod run_all;

@@ -13,6 +13,7 @@ ghost use Rattle.lsp_explain.specs.Told as spec;
 ghost use Rattle.lsp_explain.specs.Trails.{StandsAfter, terms_in};
 
 use crate::fits::{Suspect, Trial, listed, push_fitting, suspects_of};
+use crate::other_lines::push_lines_by;
 use crate::rearranged::{Way, push_rearranged};
 use crate::suspects::Until;
 use crate::trail::{Marks, Past, VersionEvent};
@@ -88,8 +89,8 @@ fn setters_until(marks: &Marks, uri: &str, until: Until) -> Result<Vec<VersionEv
     }
 }
 
-/// Adds in which other encodings the suspects make the other text, and which of them would have to
-/// be taken otherwise.
+/// Adds in which other encodings, and with which other line ends, the suspects make the other text,
+/// and which of them would have to be taken otherwise.
 fn push_tried(
     facts: &mut Facts,
     trial: Trial<'_>,
@@ -100,6 +101,7 @@ fn push_tried(
         ++ spec.told_by trial.entry setters.now (suspects_view suspects.now)) }
 {
     push_fitting(facts, trial, suspects)?;
+    push_lines_by(facts, trial, suspects)?;
     push_rearranged(facts, trial, Way::AtOnce, suspects, setters)?;
     push_rearranged(facts, trial, Way::Exchanged, suspects, setters)?;
     push_rearranged(facts, trial, Way::Without, suspects, setters)
