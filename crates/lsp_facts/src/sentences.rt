@@ -10,46 +10,41 @@ use lsp_rpc::{Result, push_quoted};
 pub(crate) type Row = (&'static str, &'static str, &'static str);
 
 /// The first row whose lines are there has the sentence.
-pub(crate) const ROWS: [Row; 23] = [
-    (
-        "fits ",
-        "inside ",
-        "The editor may count columns in another encoding than the agreed one.",
-    ),
+pub(crate) const ROWS: [Row; 22] = [
     (
         "fits utf-8\n",
         "encoding utf-16\n",
-        "The editor counts columns in utf-8; utf-16 was agreed.",
+        "The editor seems to count columns in utf-8; utf-16 was agreed.",
     ),
     (
         "fits utf-8\n",
         "encoding utf-32\n",
-        "The editor counts columns in utf-8; utf-32 was agreed.",
+        "The editor seems to count columns in utf-8; utf-32 was agreed.",
     ),
     (
         "fits utf-16\n",
         "encoding utf-8\n",
-        "The editor counts columns in utf-16; utf-8 was agreed.",
+        "The editor seems to count columns in utf-16; utf-8 was agreed.",
     ),
     (
         "fits utf-16\n",
         "encoding utf-32\n",
-        "The editor counts columns in utf-16; utf-32 was agreed.",
+        "The editor seems to count columns in utf-16; utf-32 was agreed.",
     ),
     (
         "fits utf-32\n",
         "encoding utf-8\n",
-        "The editor counts columns in utf-32; utf-8 was agreed.",
+        "The editor seems to count columns in utf-32; utf-8 was agreed.",
     ),
     (
         "fits utf-32\n",
         "encoding utf-16\n",
-        "The editor counts columns in utf-32; utf-16 was agreed.",
+        "The editor seems to count columns in utf-32; utf-16 was agreed.",
     ),
     (
         "fits ",
         "",
-        "The editor counts columns in another encoding than the agreed one.",
+        "The editor seems to count columns in another encoding than the agreed one.",
     ),
     (
         "at-once ",
