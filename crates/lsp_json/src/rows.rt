@@ -103,6 +103,7 @@ pub(crate) const ROWS: [Row; 108] = [
     ("picked", "picked name=*"),
     ("registers", "registers method=*"),
     ("usually", "usually who=*"),
+    ("so", "so sentence=*"),
     ("note", "note note=as-notification method=* @"),
     ("note", "note note=as-request method=* @"),
     ("note", "note note=by-editor method=* @"),
