@@ -10,7 +10,7 @@ use lsp_rpc::{Result, push_quoted};
 pub(crate) type Row = (&'static str, &'static str, &'static str);
 
 /// The first row whose lines are there has the sentence.
-pub(crate) const ROWS: [Row; 22] = [
+pub(crate) const ROWS: [Row; 25] = [
     (
         "fits utf-8\n",
         "encoding utf-16\n",
@@ -45,6 +45,21 @@ pub(crate) const ROWS: [Row; 22] = [
         "fits ",
         "",
         "The editor seems to count columns in another encoding than the agreed one.",
+    ),
+    (
+        "lines-by lf\n",
+        "",
+        "The editor seems to end lines at LF alone; LSP ends them at CR, too.",
+    ),
+    (
+        "lines-by ecmascript\n",
+        "",
+        "The editor seems to end lines at U+2028 and U+2029, too; LSP does not.",
+    ),
+    (
+        "lines-by python\n",
+        "",
+        "The editor seems to end lines as splitlines of Python does; LSP has fewer line ends.",
     ),
     (
         "at-once ",
