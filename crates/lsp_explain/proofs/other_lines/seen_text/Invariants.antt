@@ -1,7 +1,7 @@
-use Rattle.std.proofs.Common.{◌≡◌, map, string_bytes}
-use Rattle.lsp_explain.specs.OtherLines.{seen_as}
+use Rattle.std.proofs.Common.{string_bytes}
+use Rattle.std.specs.Str.{chars}
+use Rattle.lsp_explain.proofs.OtherLineSteps.{IsSeen}
 use Rattle.lsp_explain.proofs.other_lines.seen_text.Given as goal
-use lib.Utf8.{encodes}
 
 abbrev pub invariant-loop-char : goal.invariant-loop-char
-invariant-loop-char l = string_bytes l.seen ≡ encodes (map (seen_as l.by) l.yielded)
+invariant-loop-char l = IsSeen l.by l.yielded l.last (chars (string_bytes l.seen))
