@@ -1,4 +1,5 @@
 pub mod Standing
+pub mod SessionEnd
 pub mod Tries
 pub mod Lines
 pub mod Streams
