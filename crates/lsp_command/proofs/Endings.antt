@@ -6,8 +6,7 @@ use Rattle.lsp_verdict.specs.Runs.{CountsFaults, Ports, failures_read as source_
 use Rattle.lsp_verdict.specs.Runs.{failures_written as sink_failures}
 use Rattle.lsp_verdict.specs.declared.outcome.Outcome.{Outcome}
 use Rattle.lsp_verdict.specs.declared.outcome.RunFault.{RunFault}
-use Rattle.lsp_json_run.specs.JsonRun.{WritesJson}
-use Rattle.lsp_replay.specs.Run.{Run}
+use Rattle.lsp_replay.specs.Run.{PassesOn, Run}
 use Rattle.lsp_command.specs.Tasks.{of_event, of_run, Answers, RanTask, WritesReport}
 use Rattle.lsp_command.specs.declared.command_line.task.Report.{Report}
 use Rattle.lsp_command.specs.declared.command_line.task.Report.TheVariants as reports
@@ -38,20 +37,20 @@ module _ (limits : Bounds) (task : Task) (p : Ports) (result : Result TaskOutcom
   event_ended (Ok outcome) is counts = ran_as _ is counts.source_failures counts.sink_failures
   event_ended (Err fault) is counts = ran_as _ is counts.source_failures counts.sink_failures
 
-  -- of a run that writes JSON
-  json_ended : (run : Run) (ended : Result Outcome RunFault) → result ≡ of_run ended
-      → WritesJson run limits p ended → Answers limits task p result → RanTask limits task p result
-  json_ended run (Ok outcome) is writes = ran_as _ is writes.failures writes.wrote.failures
-  json_ended run (Err fault) is writes = ran_as _ is writes.source writes.sink
+  -- of a run that does what its definition says
+  pub passed : (run : Run) (ended : Result Outcome RunFault) → result ≡ of_run ended
+      → PassesOn run limits p ended → Answers limits task p result → RanTask limits task p result
+  passed run (Ok outcome) is passes = ran_as _ is passes.failures passes.wrote.failures
+  passed run (Err fault) is passes = ran_as _ is passes.source passes.sink
 
   pub report_ended : (report : Report) (ended : Result Outcome RunFault) → result ≡ of_run ended
       → WritesReport limits report p ended → Answers limits task p result
       → RanTask limits task p result
-  report_ended (reports.Check completeness) ended is writes = json_ended _ ended is writes
+  report_ended (reports.Check completeness) ended is writes = passed _ ended is writes
   report_ended (reports.CheckLine completeness file) ended is writes =
       run_ended ended is writes.counts
-  report_ended (reports.Survey completeness listing) ended is writes = json_ended _ ended is writes
-  report_ended (reports.Explain completeness) ended is writes = json_ended _ ended is writes
-  report_ended (reports.ExplainAll completeness) ended is writes = json_ended _ ended is writes
-  report_ended (reports.Show lines) ended is writes = json_ended _ ended is writes
-  report_ended (reports.ShowAll lines) ended is writes = json_ended _ ended is writes
+  report_ended (reports.Survey completeness listing) ended is writes = passed _ ended is writes
+  report_ended (reports.Explain completeness) ended is writes = passed _ ended is writes
+  report_ended (reports.ExplainAll completeness) ended is writes = passed _ ended is writes
+  report_ended (reports.Show lines) ended is writes = passed _ ended is writes
+  report_ended (reports.ShowAll lines) ended is writes = passed _ ended is writes

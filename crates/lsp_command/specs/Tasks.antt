@@ -19,13 +19,11 @@ use Rattle.lsp_verdict.specs.declared.outcome.RunFault.TheVariants as faults
 use Rattle.lsp_frame.specs.Bounds.{Bounds}
 use Rattle.lsp_frame.specs.Told.{Told, CountsFailure, KeepsBytes}
 use Rattle.lsp_frame.specs.declared.io.Failed.{Failed}
+use Rattle.lsp_replay.specs.Run.{PassesOn}
 use Rattle.lsp_replay.specs.TextAnswers.{WritesText}
 use Rattle.lsp_explain.specs.ExplainRuns.{all_run, explain_run}
-use Rattle.lsp_explain.specs.Explained.{ExplainsAll, WritesExplanation}
-use Rattle.lsp_explain.specs.Compared.{AnswersCompared}
-use Rattle.lsp_survey.specs.AllShown.{ShowsAll}
-use Rattle.lsp_survey.specs.KeptText.{AnswersKept}
-use Rattle.lsp_survey.specs.Reported.{SurveysLog}
+use Rattle.lsp_explain.specs.Compared.{compared_run}
+use Rattle.lsp_survey.specs.KeptText.{kept_text_run}
 use Rattle.lsp_survey.specs.SurveyRun.{report_run, show_all_run}
 use Rattle.lsp_command.specs.declared.task_outcome.TaskOutcome.{TaskOutcome}
 use Rattle.lsp_command.specs.declared.task_outcome.TaskOutcome.TheVariants as outcomes
@@ -75,19 +73,19 @@ Answers limits (Check completeness) p result = EndsRun (Checked completeness lim
 Answers limits (CheckLine completeness name) p result =
     EndsRun (CheckedLine completeness limits name.now p) result
 Answers limits (Survey completeness listing) p result =
-    EndsRun (SurveysLog completeness listing limits p) result
+    EndsRun (PassesOn (report_run completeness listing) limits p) result
 Answers limits (Explain completeness) p result =
-    EndsRun (WritesExplanation completeness limits p) result
+    EndsRun (PassesOn (explain_run completeness) limits p) result
 Answers limits (ExplainAll completeness) p result =
-    EndsRun (ExplainsAll completeness limits p) result
+    EndsRun (PassesOn (all_run completeness) limits p) result
 Answers limits (Compared which) p result =
-    EndsRun (WritesText limits p (λ log. AnswersCompared limits log which)) result
+    EndsRun (PassesOn (compared_run which) limits p) result
 Answers limits (Show lines) p result = EndsRun (Showed lines limits p) result
-Answers limits (ShowAll lines) p result = EndsRun (ShowsAll lines limits p) result
+Answers limits (ShowAll lines) p result = EndsRun (PassesOn (show_all_run lines) limits p) result
 Answers limits (Text number uri) p result = EndsRun
     (WritesText limits p (λ log. AnswersText limits log (non_zero_u64_get number) uri.now)) result
-Answers limits (TextAll number uri) p result = EndsRun
-    (WritesText limits p (λ log. AnswersKept limits log (non_zero_u64_get number) uri.now)) result
+Answers limits (TextAll number uri) p result =
+    EndsRun (PassesOn (kept_text_run (non_zero_u64_get number) uri.now) limits p) result
 Answers limits (Event number) p result =
     (ended : Result EventOutcome RunFault) × (result ≡ of_event ended)
     × GivesEvent limits p (non_zero_u64_get number) ended

@@ -24,4 +24,5 @@ pub mod Refusals
 pub mod Spellings
 pub mod Notes
 pub mod ExplainRuns
+pub mod ExplainLaws
 pub mod Explained

@@ -31,10 +31,10 @@ mod unrisen;
 pub use as_json::{run_explain_all_json, run_explain_json};
 pub use compared::{ComparedText, run_compared};
 pub use laws::{
-    all_explained_are_causes, explanation_begins_with_report, explanation_of_yes_is_report,
-    first_explained_is_verdict, no_fits_in_ascii, one_compared_text, one_explanation,
-    one_explanation_of_all, rows_are_standard_methods, some_explanation, some_explanation_of_all,
-    standard_methods_have_rows,
+    all_explained_answers_verdict, all_explained_are_causes, compared_at_its_end,
+    explanation_answers_verdict, explanation_at_its_end, explanation_begins_with_report,
+    explanation_of_yes_is_report, first_explained_is_verdict, no_fits_in_ascii, one_compared_text,
+    one_explanation, one_explanation_of_all, rows_are_standard_methods, standard_methods_have_rows,
 };
 pub use run::run_explain;
 pub use run_all::run_explain_all;

@@ -3,6 +3,7 @@ ghost use Rattle.std.specs.Prelude.{◌≡◌, ◌++◌, ◌<◌, ◌^◌, [], L
 ghost use Rattle.std.specs.Prelude.{map, take};
 ghost use Rattle.lsp_docs.specs.Documents.{Terms};
 ghost use Rattle.lsp_replay.specs.LogEvents.{flaw_of};
+ghost use Rattle.lsp_replay.specs.Run.{PassesOn};
 ghost use Rattle.lsp_replay.specs.Telling.{Stood};
 ghost use Rattle.lsp_survey.specs.SessionEnds.{ends_held};
 ghost use Rattle.lsp_verdict.specs.Given.{verdict_view};
@@ -13,7 +14,7 @@ ghost use Rattle.lsp_verdict.specs.Verdict.{bad_log_of, first_no, summary};
 ghost use Rattle.lsp_verdict.specs.declared.completeness.Completeness.{Completeness};
 ghost use Rattle.lsp_explain.specs.ExplainRuns.{FirstStands, flaw_held, rests_held, end_verdict};
 ghost use Rattle.lsp_explain.specs.ExplainRuns.{ends_said, explain_run};
-ghost use Rattle.lsp_explain.specs.Explained.{WritesExplanation, explanation};
+ghost use Rattle.lsp_explain.specs.Explained.{explanation};
 ghost use Rattle.lsp_explain.specs.Trails.{IsTrail};
 
 use crate::notes::{Misfits, Refusals, Spellings, push_notes};
@@ -44,7 +45,7 @@ pub fn run_explain<R: Source, W: Sink>(
     limits: Limits,
     completeness: Completeness,
 ) -> Result<Outcome, RunFault>
-    ensures explains { WritesExplanation completeness limits
+    ensures passes { PassesOn (explain_run completeness) limits
         (ports (R.told reader.old) (R.told reader.new) (W.told writer.old) (W.told writer.new))
         result }
 {

@@ -2,6 +2,7 @@
 ghost use Rattle.std.specs.Prelude.{◌≡◌, ◌++◌, [], List, OnOk, map, string_bytes};
 ghost use Rattle.std.specs.List.{flat_map};
 ghost use Rattle.lsp_docs.specs.Documents.{Terms};
+ghost use Rattle.lsp_replay.specs.Run.{PassesOn};
 ghost use Rattle.lsp_survey.specs.Reported.{IsTally};
 ghost use Rattle.lsp_verdict.specs.Event.{Event};
 ghost use Rattle.lsp_verdict.specs.Given.{offence_view};
@@ -10,7 +11,7 @@ ghost use Rattle.lsp_verdict.specs.Runs.{ports};
 ghost use Rattle.lsp_verdict.specs.declared.completeness.Completeness.{Completeness};
 ghost use Rattle.lsp_explain.specs.Asking.{numbered};
 ghost use Rattle.lsp_explain.specs.ExplainRuns.{AllStands, rests_held, all_run};
-ghost use Rattle.lsp_explain.specs.Explained.{ExplainsAll, cause_lines, end_explained};
+ghost use Rattle.lsp_explain.specs.Explained.{cause_lines, end_explained};
 ghost use Rattle.lsp_explain.specs.Trails.{StandsAfter, terms_in};
 
 use crate::offence_facts::{push_end, push_flaw, push_offence};
@@ -43,7 +44,7 @@ pub fn run_explain_all<R: Source, W: Sink>(
     completeness: Completeness,
 ) -> Result<Outcome, RunFault>
     // The verdict is the one that `run_check` gives, or `run_check_complete`.
-    ensures explains { ExplainsAll completeness limits
+    ensures passes { PassesOn (all_run completeness) limits
         (ports (R.told reader.old) (R.told reader.new) (W.told writer.old) (W.told writer.new))
         result }
 {

@@ -3,7 +3,7 @@ use Rattle.std.specs.Prelude.{◌≡◌, ℕ, List, [], false, Result}
 use Rattle.lsp_docs.specs.Documents.{Terms}
 use Rattle.lsp_frame.specs.Bounds.{Bounds}
 use Rattle.lsp_json.specs.Rows.{json_lines}
-use Rattle.lsp_replay.specs.Run.{Passes, Run}
+use Rattle.lsp_replay.specs.Run.{PassesOn, Run}
 use Rattle.lsp_verdict.specs.Heard.{Heard, Rests}
 use Rattle.lsp_verdict.specs.Runs.{Ports}
 use Rattle.lsp_verdict.specs.declared.outcome.Outcome.{Outcome}
@@ -20,8 +20,8 @@ json_run run = record {
   wants = run.wants;
   stops = run.stops;
   ends = run.ends;
-  closes = λ terms heard tail out outcome.
-      IsJson (λ said. run.closes terms heard tail said outcome) out;
+  closes = λ terms heard tail out. IsJson (run.closes terms heard tail) out;
+  finishes = run.finishes;
 }
 
 -- where the run wants no memory, it says nothing
@@ -31,6 +31,4 @@ IsQuiet run = (terms : Terms) (rests : Rests) (before : List Heard) (h : Heard) 
 
 -- **this is what a run writes as JSON, and how it ends**, on this input and into this output
 abbrev pub WritesJson : Run → Bounds → Ports → Result Outcome RunFault → Type 0
-WritesJson run limits io result =
-    Passes (json_run run) limits io.source_before io.source_after io.sink_before io.sink_after
-    result
+WritesJson run = PassesOn (json_run run)

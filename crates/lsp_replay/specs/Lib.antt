@@ -10,3 +10,4 @@ pub mod Telling
 pub mod Keeping
 pub mod TextAnswers
 pub mod Run
+pub mod RunLaws

@@ -13,8 +13,8 @@ abbrev pub lack_rule : Completeness → List Event → Option ℕ
 lack_rule Ignored kept = None
 lack_rule Required kept = incomplete (sent_in kept)
 
--- **the rule that is broken first where it ends after them, and by whom**: a rest of the editor's or
--- the server's, whose streams end inside a frame or don't, else what is missing
+-- **the rule that is broken first where it ends after them, and by whom**: a rest of the editor's
+-- or the server's, whose streams end inside a frame or don't, else what is missing
 abbrev pub first_end : Completeness → List Event → Bool → Bool → Option (ℕ × Who)
 first_end completeness kept true server = Some (rules.STREAM_ENDS_INSIDE_FRAME, who.Editor)
 first_end completeness kept false true = Some (rules.STREAM_ENDS_INSIDE_FRAME, who.Server)

@@ -10,8 +10,8 @@ use lsp_types::rules;
 use lsp_verdict::{Completeness, Who};
 
 /// The rule that is broken first where the session ends after the events that are held, and by
-/// whom: bytes of the editor's or the server's are not a whole frame; or, where it must be complete,
-/// a request of the editor's has no answer, else an `exit` was not sent.
+/// whom: bytes of the editor's or the server's are not a whole frame; or, where it must be
+/// complete, a request of the editor's has no answer, else an `exit` was not sent.
 pub fn first_end<S: TextStore>(
     events: &Events<S>,
     editor: bool,

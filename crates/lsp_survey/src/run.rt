@@ -1,6 +1,6 @@
 //! Reports all that is wrong with a log, or shows all its events.
-ghost use Rattle.lsp_survey.specs.AllShown.{ShowsAll};
-ghost use Rattle.lsp_survey.specs.Reported.{SurveysLog};
+ghost use Rattle.lsp_replay.specs.Run.{PassesOn};
+ghost use Rattle.lsp_survey.specs.SurveyRun.{report_run, show_all_run};
 ghost use Rattle.lsp_verdict.specs.Runs.{ports};
 
 use crate::survey::{Options, Survey};
@@ -30,7 +30,7 @@ pub fn run_survey<R: Source, W: Sink>(
 ) -> Result<Outcome, RunFault>
     // The verdict is the one that `run_check` gives, or `run_check_complete`: the first No that is
     // listed, else the fault of the log, else Yes.
-    ensures surveyed { SurveysLog completeness listing limits
+    ensures passes { PassesOn (report_run completeness listing) limits
         (ports (R.told reader.old) (R.told reader.new) (W.told writer.old) (W.told writer.new))
         result }
 {
@@ -61,8 +61,9 @@ pub fn run_show_all<R: Source, W: Sink>(
     lines: Lines,
 ) -> Result<Outcome, RunFault>
     // The verdict is the one that `run_check` gives.
-    ensures shown { ShowsAll lines limits (ports (R.told reader.old) (R.told reader.new)
-        (W.told writer.old) (W.told writer.new)) result }
+    ensures passes { PassesOn (show_all_run lines) limits
+        (ports (R.told reader.old) (R.told reader.new) (W.told writer.old) (W.told writer.new))
+        result }
 {
     let options = Options {
         completeness: Completeness::Ignored,

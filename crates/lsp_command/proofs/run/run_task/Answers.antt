@@ -1,4 +1,4 @@
-use Rattle.lsp_command.proofs.Endings.{event_ended, report_ended, run_ended}
+use Rattle.lsp_command.proofs.Endings.{event_ended, passed, report_ended, run_ended}
 use Rattle.lsp_command.proofs.run.run_task.Goals as goal
 
 pub returns-in-Check-Ignored : goal.returns-in-Check-Ignored
@@ -25,27 +25,27 @@ returns-in-CheckLine g c =
 
 pub returns-in-Survey : goal.returns-in-Survey
 returns-in-Survey g c =
-    let is = c.run_survey-ended.ensures.surveyed in
+    let is = c.run_survey-ended.ensures.passes in
     let of = c.of_run-in-Survey.ensures in
-    rw c.in-Survey.is (record { ran = run_ended _ _ _ _ _ of is.counts (_, of, is) })
+    rw c.in-Survey.is (record { ran = passed _ _ _ _ _ _ of is (_, of, is) })
 
 pub returns-in-Explain : goal.returns-in-Explain
 returns-in-Explain g c =
-    let is = c.run_explain.ensures.explains in
+    let is = c.run_explain.ensures.passes in
     let of = c.of_run-in-Explain.ensures in
-    rw c.in-Explain.is (record { ran = run_ended _ _ _ _ _ of is.writes.counts (_, of, is) })
+    rw c.in-Explain.is (record { ran = passed _ _ _ _ _ _ of is (_, of, is) })
 
 pub returns-in-ExplainAll : goal.returns-in-ExplainAll
 returns-in-ExplainAll g c =
-    let is = c.run_explain_all.ensures.explains in
+    let is = c.run_explain_all.ensures.passes in
     let of = c.of_run-in-ExplainAll.ensures in
-    rw c.in-ExplainAll.is (record { ran = run_ended _ _ _ _ _ of is.counts (_, of, is) })
+    rw c.in-ExplainAll.is (record { ran = passed _ _ _ _ _ _ of is (_, of, is) })
 
 pub returns-in-Compared : goal.returns-in-Compared
 returns-in-Compared g c =
-    let is = c.run_compared.ensures.text in
+    let is = c.run_compared.ensures.passes in
     let of = c.of_run-in-Compared.ensures in
-    rw c.in-Compared.is (record { ran = run_ended _ _ _ _ _ of is.counts (_, of, is) })
+    rw c.in-Compared.is (record { ran = passed _ _ _ _ _ _ of is (_, of, is) })
 
 pub returns-in-Show-Short : goal.returns-in-Show-Short
 returns-in-Show-Short g c =
@@ -63,9 +63,9 @@ returns-in-Show-Long g c =
 
 pub returns-in-ShowAll : goal.returns-in-ShowAll
 returns-in-ShowAll g c =
-    let is = c.run_show_all.ensures.shown in
+    let is = c.run_show_all.ensures.passes in
     let of = c.of_run-in-ShowAll.ensures in
-    rw c.in-ShowAll.is (record { ran = run_ended _ _ _ _ _ of is.counts (_, of, is) })
+    rw c.in-ShowAll.is (record { ran = passed _ _ _ _ _ _ of is (_, of, is) })
 
 pub returns-in-Text : goal.returns-in-Text
 returns-in-Text g c =
@@ -75,9 +75,9 @@ returns-in-Text g c =
 
 pub returns-in-TextAll : goal.returns-in-TextAll
 returns-in-TextAll g c =
-    let is = rw c.get-in-TextAll.ensures.value at c.run_text_all.ensures.text in
+    let is = rw c.get-in-TextAll.ensures.value at c.run_text_all.ensures.passes in
     let of = c.of_run-in-TextAll.ensures in
-    rw c.in-TextAll.is (record { ran = run_ended _ _ _ _ _ of is.counts (_, of, is) })
+    rw c.in-TextAll.is (record { ran = passed _ _ _ _ _ _ of is (_, of, is) })
 
 pub returns-in-Event : goal.returns-in-Event
 returns-in-Event g c =
