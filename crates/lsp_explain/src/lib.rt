@@ -4,12 +4,11 @@
 //! [`run_explain`] reads a log and explains the verdict on it, and [`run_explain_all`] all that is
 //! wrong with it. An offence is explained by the facts of `lsp_facts` and by the earlier events
 //! that led to it. [`run_compared`] writes one of two whole texts, if the verdict says that they
-//! differ. [`run_explain_json`] and [`run_explain_all_json`] explain in JSON. Each is an account
+//! differ. The first two also write JSON. Each is an account
 //! (`FirstOffence`, `AllCauses`, `OneText`) over the one `pass` of `lsp_replay`, and `Trail` keeps
 //! on the way which events led to what.
 #![tactic(auto)]
 
-mod as_json;
 mod compared;
 mod fits;
 mod laws;
@@ -28,7 +27,6 @@ mod twins;
 mod unopened;
 mod unrisen;
 
-pub use as_json::{run_explain_all_json, run_explain_json};
 pub use compared::{ComparedText, run_compared};
 pub use laws::{
     all_explained_answers_verdict, all_explained_are_causes, compared_at_its_end,

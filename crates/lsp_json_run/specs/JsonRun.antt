@@ -3,6 +3,8 @@ use Rattle.std.specs.Prelude.{◌≡◌, ℕ, List, [], false, Result}
 use Rattle.lsp_docs.specs.Documents.{Terms}
 use Rattle.lsp_frame.specs.Bounds.{Bounds}
 use Rattle.lsp_json.specs.Rows.{json_lines}
+use Rattle.lsp_json_run.specs.declared.form.Form.{Form}
+use Rattle.lsp_json_run.specs.declared.form.Form.TheVariants as forms
 use Rattle.lsp_replay.specs.Run.{PassesOn, Run}
 use Rattle.lsp_verdict.specs.Heard.{Heard, Rests}
 use Rattle.lsp_verdict.specs.Runs.{Ports}
@@ -23,6 +25,11 @@ json_run run = record {
   closes = λ terms heard tail out. IsJson (run.closes terms heard tail) out;
   finishes = run.finishes;
 }
+
+-- the run in a form
+abbrev pub run_in : Form → Run → Run
+run_in forms.Lines run = run
+run_in forms.Json run = json_run run
 
 -- where the run wants no memory, it says nothing
 abbrev pub IsQuiet : Run → Type 0

@@ -1,16 +1,34 @@
-use Rattle.std.proofs.Common.{◌≡◌, ◌∙◌, ap₂, codes, subst, sym}
-use Rattle.lsp_command.specs.Words.{HasTask, compared_of, completeness_of, explain_of, rows_in}
-use Rattle.lsp_command.specs.declared.command_line.task.Task.{Task}
-use Rattle.lsp_command.proofs.Asked.{asks_explain}
+use Rattle.std.proofs.Common.{◌∙◌, refl, sym}
 use Rattle.lsp_command.proofs.command_line.words.explain_task.Goals as goal
 
+-- one of the two texts
+pub returns-in-Some : goal.returns-in-Some
+returns-in-Some c = record {
+  command = refl;
+  arguments = (
+    c.is_set-by_messages.result,
+    c.is_set-in_editor.result,
+    c.is_set-by_messages.ensures,
+    c.is_set-in_editor.ensures,
+    sym c.in-Some.is ∙ c.compared_of.ensures,
+  );
+}
+
 pub returns : goal.returns
-returns c =
-    let all = c.is_set-2.result in
-    let is : c.explain_of.result ≡ explain_of (completeness_of c.is_set.result) all
-    (compared_of c.is_set-3.result c.is_set-4.result) =
-    c.explain_of.ensures
-    ∙ ap₂ (λ x y. explain_of x all y) c.completeness_of.ensures c.compared_of.ensures in
-    subst (λ (t : Task). HasTask (codes "explain") (rows_in c.args.arguments.now) t) (sym is)
-    (asks_explain _ _ c.is_set.ensures _ _ _ c.is_set-2.ensures c.is_set-3.ensures
-    c.is_set-4.ensures)
+returns c = record {
+  command = refl;
+  arguments = record {
+    complete = c.is_set-complete.result;
+    no_text = (
+      c.is_set-by_messages.result,
+      c.is_set-in_editor.result,
+      c.is_set-by_messages.ensures,
+      c.is_set-in_editor.ensures,
+      sym c.in_default.is ∙ c.compared_of.ensures,
+    );
+    complete_is = c.is_set-complete.ensures;
+    completeness_is = c.completeness_of.ensures;
+    extent_is = (c.is_set-all.result, c.is_set-all.ensures, c.extent_of.ensures);
+    form_is = (c.is_set-json.result, c.is_set-json.ensures, c.form_of.ensures);
+  };
+}
