@@ -55,6 +55,10 @@ abbrev pub IsSeen : LinesBy → List ℕ → Option ℕ → List ℕ → Type 0
 IsSeen by t last written =
     (more : List ℕ) → seen by (t ++ more) ≡ written ++ seen by (option_to_list last ++ more)
 
+-- none is read
+pub read_none : (by : LinesBy) (written : List ℕ) → written ≡ [] → IsSeen by [] None written
+read_none by written none = λ more. ap (λ (l : List ℕ). l ++ seen by more) (sym none)
+
 -- one character more is read, and the last one written
 pub read_on : (by : LinesBy) (t : List ℕ) (last : Option ℕ) (c : ℕ) (written next : List ℕ)
     → IsSeen by t last written → next ≡ written ++ seen_of by (is_feed c) last
