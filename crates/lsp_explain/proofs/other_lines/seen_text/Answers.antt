@@ -2,13 +2,15 @@ use Rattle.std.specs.Str.{chars}
 use Rattle.std.proofs.Common.{◌∙◌, ap, map-id, string_bytes, sym}
 use Rattle.std.proofs.lemmas.Iterator.{YieldsList-from_chars}
 use Rattle.std.proofs.lemmas.Iterator.Consumers.{YieldsList-end}
+use Rattle.std.proofs.lemmas.Str.{chars-nil}
 use Rattle.lsp_explain.specs.OtherLines.{seen}
 use Rattle.lsp_explain.proofs.OtherLineSteps.{read_all, read_none, read_on}
 use Rattle.lsp_explain.proofs.other_lines.seen_text.Goals as goal
 
 pub loop-char-init : goal.loop-char-init
 loop-char-init c =
-    read_none c.args.by (chars (string_bytes c.new-seen.result)) (ap chars c.new-seen.ensures.bytes)
+    read_none c.args.by (chars (string_bytes c.new-seen.result))
+    (ap chars c.new-seen.ensures.bytes ∙ chars-nil)
 
 pub loop-char-preserved : goal.loop-char-preserved
 loop-char-preserved c =
