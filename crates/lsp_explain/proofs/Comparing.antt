@@ -1,9 +1,8 @@
 -- The two whole texts of the first event that offends.
 use Rattle.std.specs.Prelude.{option_map, unwrap_or}
 use Rattle.std.specs.Option.{option_or}
-use Rattle.std.proofs.Common.{◌≡◌, ◌≤◌, ℕ, List, [], ◌∷◌, ◌++◌, Option, Some, None, refl, true}
-use Rattle.std.proofs.Common.{arith, sym, ap, subst, ◌∙◌, Bor}
-use Rattle.std.proofs.lemmas.Bool.Decides.{nat_tests}
+use Rattle.std.proofs.Common.{◌≡◌, ℕ, List, [], ◌∷◌, ◌++◌, Option, Some, None, refl}
+use Rattle.std.proofs.Common.{sym, ap, subst, ◌∙◌, Bor}
 use Rattle.lsp_docs.specs.State as docs
 use Rattle.lsp_docs.specs.Documents.{Terms}
 use Rattle.lsp_docs.specs.Taken.{call_view}
@@ -11,7 +10,7 @@ use Rattle.lsp_docs.specs.declared.tried.Tried.{Tried}
 use Rattle.lsp_frame.specs.Bounds.{Bounds}
 use Rattle.lsp_frame.specs.declared.format.Format.{Format}
 use Rattle.lsp_log.specs.Log.{Record}
-use Rattle.lsp_facts.specs.TwoTexts.{TwoTexts, is_of_texts, texts_at}
+use Rattle.lsp_facts.specs.TwoTexts.{TwoTexts, texts_at}
 use Rattle.lsp_replay.specs.Run.{IsTold, Tail}
 use Rattle.lsp_replay.specs.Standing.{Holds}
 use Rattle.lsp_replay.specs.Telling.{HasFate, IsSeen, kept_before, rule_of}
@@ -105,9 +104,6 @@ compared_told which limits log format records heard tail told = (
 )
 
 -- ---- what is compared of an event
-
-pub is_on_documents : (rule : ℕ) → is_of_texts rule ≡ true → 601 ≤ rule
-is_on_documents rule is = grind (arith, nat_tests)
 
 -- what compares what this event says, is compared of it
 pub compared_here : (terms : Terms) (before : List Heard) (h : Heard) (rule : ℕ) (s : Seen)
