@@ -32,19 +32,21 @@ unsuspected base limit sent call many =
     else [])
     (many-front (later base.number sent) (own_edits call) many)
 
-abbrev told_any : Terms → Encoding → Text → List VersionEvent → Option ShownText → List SentEdits → Text
-    → List Fact
+abbrev told_any : Terms → Encoding → Text → List VersionEvent → Option ShownText → List SentEdits
+    → Text → List Fact
 told_any terms enc t setters shown sent other =
     fits_fact (fitting_any terms enc t sent other) ++ taken_any terms enc t setters shown sent other
 
 -- then nothing is said
 pub none_told : (terms : Terms) (enc : Encoding) (limit : Until) (setters : List VersionEvent)
-    (shown : Option ShownText) (sent : List SentEdits) (call : Call) (base : Version) (texts : Option TwoTexts)
+    (shown : Option ShownText) (sent : List SentEdits) (call : Call) (base : Version)
+    (texts : Option TwoTexts)
     → suspected base limit sent call ≡ []
     → told_of terms enc limit setters shown sent call (Some base) texts ≡ []
 none_told terms enc limit setters shown sent call base None none = refl
 none_told terms enc limit setters shown sent call base (Some texts) none =
-    ap (λ l. told_any terms enc base.text setters (if_later base.number shown) l texts.in_editor) none
+    ap (λ l. told_any terms enc base.text setters (if_later base.number shown) l texts.in_editor)
+    none
 
 -- nor without two texts
 pub none_differ : (terms : Terms) (enc : Encoding) (limit : Until) (setters : List VersionEvent)
@@ -72,11 +74,13 @@ module _ (terms : Terms) (equal : Option VersionEvent) (past kept : List Version
 
   -- nothing is held: nothing is said
   pub nothing_told : (enc : Encoding) (limit : Until) (setters : List VersionEvent)
-      (shown : Option ShownText) (call : Call) (h : Option Version) (texts : Option TwoTexts) → (h ≡ None → past ≡ []) → Holds h None
+      (shown : Option ShownText) (call : Call) (h : Option Version) (texts : Option TwoTexts)
+      → (h ≡ None → past ≡ []) → Holds h None
       → told_of terms enc limit setters shown sent call
       (base_in equal (past ++ option_to_list h)) texts ≡ []
   nothing_told enc limit setters shown call None texts empty holds =
-      ap (λ e. told_of terms enc limit setters shown sent call (base_in e (past ++ [])) texts) holds.0
+      ap (λ e. told_of terms enc limit setters shown sent call (base_in e (past ++ [])) texts)
+      holds.0
       ∙ ap (λ ps. told_of terms enc limit setters shown sent call (base_in None (ps ++ [])) texts)
       (empty refl)
   nothing_told enc limit setters shown call (Some v) texts empty holds =
@@ -86,7 +90,8 @@ module _ (terms : Terms) (equal : Option VersionEvent) (past kept : List Version
 
   -- no text is held
   pub no_text_told : (enc : Encoding) (limit : Until) (setters : List VersionEvent)
-      (shown : Option ShownText) (call : Call) (h : Option Version) (b : Base) (texts : Option TwoTexts) → text_in b ≡ None → Holds h (Some b)
+      (shown : Option ShownText) (call : Call) (h : Option Version) (b : Base)
+      (texts : Option TwoTexts) → text_in b ≡ None → Holds h (Some b)
       → told_of terms enc limit setters shown sent call
       (base_in equal (past ++ option_to_list h)) texts ≡ []
   no_text_told enc limit setters shown call None b texts none holds = absurd (cc holds.1)

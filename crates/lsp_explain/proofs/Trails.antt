@@ -274,7 +274,8 @@ module _ (terms : Terms) (before : List Heard) (h : Heard) (old : Trail)
         (is_done (sent_in (kept_of terms (heard_events (before ++ h ∷ []))))) old.said new.said
         → RenamesIn place side bytes (message_view s.message) None old.said.renames new.said.renames
         → IsTrail terms new (heard_events (before ++ h ∷ []))
-    trail_said side bytes by s reads spoken says marks openings bases last saves shown told renamed =
+    trail_said side bytes by s reads spoken says marks openings bases last saves shown told
+        renamed =
         let sent = spoken.sent in
         let own = subst (λ (e : Event). Reads (content side bytes) e) spoken.is reads in
         let all : heard_events (before ++ h ∷ []) ≡ events ++ message sent ∷ [] =

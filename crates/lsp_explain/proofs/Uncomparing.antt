@@ -3,11 +3,12 @@ use Rattle.std.specs.Prelude.{ℤ, int_lt, if◌then◌else◌, option_and_then,
 use Rattle.std.specs.Global.{Global}
 use Rattle.std.specs.List.{cons_option, find}
 use Rattle.std.specs.Str.{bytes_eq}
-use Rattle.std.proofs.Common.{◌≡◌, Bool, true, false, List, [], ◌∷◌, ◌++◌, Option, Some, None, refl, ap}
-use Rattle.std.proofs.Common.{◌∙◌, append-nil, sym}
+use Rattle.std.proofs.Common.{◌≡◌, Bool, true, false, List, [], ◌∷◌, ◌++◌, Option, Some, None}
+use Rattle.std.proofs.Common.{refl, ap, ◌∙◌, append-nil, sym}
 use Rattle.std.proofs.lemmas.List.{reverse-append}
 use Rattle.lsp_docs.specs.Calls.{Bytes}
-use Rattle.lsp_explain.specs.Uncompared.{LeavesOn, LeftOf, ShownText, is_left_of, last_left, left_on}
+use Rattle.lsp_explain.specs.Uncompared.{LeavesOn, LeftOf, ShownText, is_left_of, last_left}
+use Rattle.lsp_explain.specs.Uncompared.{left_on}
 use Rattle.lsp_explain.specs.declared.trail.uncompared.ShownText as code
 
 -- nothing is left

@@ -56,8 +56,8 @@ returns-in_default-text c = λ before stands breaks tried.
     ∙ ap (held_of c.args.past.trail.now.bases.map.entries) c.uri.ensures in
     untold c.args.facts.now terms before c.args.rule c.args.until call
     (no_text_told terms equal (past terms uri made) (kept terms uri made) (sent_since uri made)
-    (agreed_encoding (kept_of terms before)) c.args.until setters shown call (held terms uri made) base
-    (texts_of terms made call c.args.rule)
+    (agreed_encoding (kept_of terms before)) c.args.until setters shown call (held terms uri made)
+    base (texts_of terms made call c.args.rule)
     (ap (option_map (λ t. t.content)) c.in_default-text.is)
     (subst (HoldsAfter terms uri made equal) (sym is) (stands.trail.based uri)))
 
