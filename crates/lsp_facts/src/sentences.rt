@@ -10,7 +10,7 @@ use lsp_rpc::{Result, push_quoted};
 pub(crate) type Row = (&'static str, &'static str, &'static str);
 
 /// The first row whose lines are there has the sentence.
-pub(crate) const ROWS: [Row; 25] = [
+pub(crate) const ROWS: [Row; 26] = [
     (
         "fits utf-8\n",
         "encoding utf-16\n",
@@ -75,6 +75,11 @@ pub(crate) const ROWS: [Row; 25] = [
         "without ",
         "",
         "The editor may have sent a change that it did not make.",
+    ),
+    (
+        "right-from ",
+        "",
+        "The last messages seem right; an earlier one is wrong, or a change was never sent.",
     ),
     (
         "ends converted ",
