@@ -48,7 +48,7 @@ REPORTED = {
 
 # The status that belongs to the first line of a report, or of what is written instead of one.
 STATUSES = [
-    (r"no \d|.*\nno \d", 1),
+    (r'no \d|.*\nno \d|\{"is":"no",', 1),
     (r"bad log |(.*\n)*fault ", 2),
     (r"((.+: |\{).*\n)*lspcheck: (read|write) fault", 3),
     (r"no such document|no content|no texts |fewer ", 5),
