@@ -126,9 +126,6 @@ const FACTS = {
   without: ["It would fit", (it) => [
     `if version ${it.version} were left out: `, ...shownEvent(it),
   ]],
-  "right-from": ["Right from", (it) => [
-    `version ${it.version} on: the messages after it fit the text of `, ...shownEvent(it),
-  ]],
   bytes: ["Size", (it) => [`the text would have ${it.count} bytes`]],
   limit: ["Limit", (it) => [`${it.count} bytes`]],
   at: ["First difference", (it) => [shownPlace(it.line, it.column)]],

@@ -289,7 +289,6 @@ SENTENCES = {
     "at-once": ("It would fit", lambda it: f"if the ranges of version {it[0]} were all taken in the text before it: {event_words(it[1:])}"),
     "exchanged": ("It would fit", lambda it: f"if version {it[0]} came after the next one: {event_words(it[1:])}"),
     "without": ("It would fit", lambda it: f"if version {it[0]} were left out: {event_words(it[1:])}"),
-    "right-from": ("Right from", lambda it: f"version {it[0]} on: the messages after it fit the text of {event_words(it[1:])}"),
     "at": ("First difference", place),
     "codes": ("Characters", code_words),
     "ends": ("Line ends", ends_words),

@@ -17,7 +17,6 @@ mod notes;
 mod offence_facts;
 mod other_lines;
 mod rearranged;
-mod right_from;
 mod run;
 mod run_all;
 mod run_noted;
