@@ -43,7 +43,7 @@ fn is_right_from(trial: Trial<'_>, suspects: &[Suspect<'_>], shown: &ShownText) 
         other,
         ..
     } = trial;
-    let after = later_ones(docs.alloc(), suspects, shown.version)?;
+    let after = later_ones(docs.alloc(), suspects, shown)?;
     if after.is_empty() {
         return Ok(false);
     }
@@ -58,24 +58,32 @@ fn is_right_from(trial: Trial<'_>, suspects: &[Suspect<'_>], shown: &ShownText) 
     gives(trial, encoding, after.as_slice())
 }
 
-/// The suspects that set a version after this one.
-fn later_ones<'a>(alloc: Global, suspects: &[Suspect<'a>], version: i32) -> Result<Vec<Suspect<'a>>>
+/// The suspects that set a version after that of a snapshot.
+fn later_ones<'a>(
+    alloc: Global,
+    suspects: &[Suspect<'a>],
+    shown: &ShownText,
+) -> Result<Vec<Suspect<'a>>>
     ensures { IfOk result (λ all. suspects_view all.items
-        ≡ later version (suspects_view suspects.now)) }
+        ≡ later shown.now.version (suspects_view suspects.now)) }
 {
     let mut after = Vec::new(alloc);
     for suspect in suspects {
-        push_if_later(&mut after, *suspect, version)?;
+        push_if_later(&mut after, *suspect, shown)?;
     }
     Ok(after)
 }
 
-/// Adds a suspect, if it sets a version after this one.
-fn push_if_later<'a>(after: &mut Vec<Suspect<'a>>, suspect: Suspect<'a>, version: i32) -> Result<()>
+/// Adds a suspect, if it is one of them.
+fn push_if_later<'a>(
+    after: &mut Vec<Suspect<'a>>,
+    suspect: Suspect<'a>,
+    shown: &ShownText,
+) -> Result<()>
     ensures { OnOk result (suspects_view after.new.items ≡ suspects_view after.old.items
-        ++ later version (suspect_view suspect.entry ∷ [])) }
+        ++ later shown.now.version (suspect_view suspect.entry ∷ [])) }
 {
-    if version < suspect.version {
+    if shown.version < suspect.version {
         after.push(suspect)?;
     }
     Ok(())

@@ -8,7 +8,7 @@ use Rattle.lsp_explain.proofs.right_from.later_ones.Goals as goal
 
 pub loop-suspect-init : goal.loop-suspect-init
 loop-suspect-init c =
-    ap (λ l. suspects_view l ++ later c.args.version (suspects_view c.args.suspects.now))
+    ap (λ l. suspects_view l ++ later c.args.shown.now.version (suspects_view c.args.suspects.now))
     c.new-after.ensures.items
 
 pub loop-suspect-preserved : goal.loop-suspect-preserved
@@ -16,7 +16,7 @@ loop-suspect-preserved c =
     let all = c.args.suspects.now in
     let i = c.loop-suspect.suspect-index in
     let s = c.suspect-item.result in
-    let n = c.args.version in
+    let n = c.args.shown.now.version in
     let done = suspects_view c.loop-suspect.after.items in
     let one = suspect_view s ∷ [] in
     let more = suspects_view (drop (i + 1) all) in
@@ -30,6 +30,6 @@ pub returns : goal.returns
 returns c =
     let done = suspects_view c.loop-suspect.after.items in
     sym (append-nil done)
-    ∙ ap (λ l. done ++ later c.args.version (suspects_view l))
+    ∙ ap (λ l. done ++ later c.args.shown.now.version (suspects_view l))
     (sym (drop_all c.loop-suspect.suspect-index c.args.suspects.now c.loop-suspect-test.false))
     ∙ c.loop-suspect.invariant

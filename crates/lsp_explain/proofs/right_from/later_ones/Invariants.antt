@@ -5,5 +5,6 @@ use Rattle.lsp_explain.proofs.right_from.later_ones.Given as goal
 
 abbrev pub invariant-loop-suspect : goal.invariant-loop-suspect
 invariant-loop-suspect l =
-    suspects_view l.after.items ++ later l.version (suspects_view (drop l.suspect-index l.suspects))
-    ≡ later l.version (suspects_view l.suspects)
+    suspects_view l.after.items
+    ++ later l.shown.version (suspects_view (drop l.suspect-index l.suspects))
+    ≡ later l.shown.version (suspects_view l.suspects)
