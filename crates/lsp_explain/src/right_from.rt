@@ -1,7 +1,7 @@
 //! From which snapshot on the suspects make the text that the editor had.
-ghost use Rattle.std.specs.Prelude.{◌≡◌, ◌++◌, IfOk, OnOk, option_map};
+ghost use Rattle.std.specs.Prelude.{◌≡◌, ◌++◌, ◌∷◌, [], IfOk, OnOk, option_map};
 ghost use Rattle.lsp_explain.specs.Bases.{later};
-ghost use Rattle.lsp_explain.specs.Fits.{suspects_view};
+ghost use Rattle.lsp_explain.specs.Fits.{suspect_view, suspects_view};
 ghost use Rattle.lsp_explain.specs.RightFrom as spec;
 ghost use Rattle.lsp_explain.specs.Uncompared.{shown_view};
 
@@ -65,9 +65,18 @@ fn later_ones<'a>(alloc: Global, suspects: &[Suspect<'a>], version: i32) -> Resu
 {
     let mut after = Vec::new(alloc);
     for suspect in suspects {
-        if version < suspect.version {
-            after.push(*suspect)?;
-        }
+        push_if_later(&mut after, *suspect, version)?;
     }
     Ok(after)
+}
+
+/// Adds a suspect, if it sets a version after this one.
+fn push_if_later<'a>(after: &mut Vec<Suspect<'a>>, suspect: Suspect<'a>, version: i32) -> Result<()>
+    ensures { OnOk result (suspects_view after.new.items ≡ suspects_view after.old.items
+        ++ later version (suspect_view suspect.entry ∷ [])) }
+{
+    if version < suspect.version {
+        after.push(suspect)?;
+    }
+    Ok(())
 }
