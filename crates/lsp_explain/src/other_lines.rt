@@ -108,8 +108,8 @@ fn gives_by(trial: Trial<'_>, by: LinesBy, suspects: &[Suspect<'_>]) -> Result<b
     Ok(has_text(trial.docs.line_ends(), &store, trial.other))
 }
 
-/// Whether a text, or one that the suspects insert, has a character that may end a line of these, or
-/// of LSP, alone.
+/// Whether a text, or one that the suspects insert, has a character that may end a line of these
+/// alone, or of LSP alone.
 fn may_differ(by: LinesBy, text: &str, suspects: &[Suspect<'_>]) -> bool
     ensures { result ≡ spec.may_differ by (chars text.now) (suspects_view suspects.now) }
 {
