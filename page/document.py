@@ -21,6 +21,7 @@ SCRIPTS = [
     "data.js",
     "visible.js",
     "texts.js",
+    "summaries.js",
     "documents.js",
     "difference.js",
     "nodes.js",
@@ -195,9 +196,10 @@ def write_page(file, runs, given):
     page, lines = Document(file), report.lines(said)
     name = plain(log.name or "standard input")
     page.write_until("DATA", NAME=name, REPORT=plain("\n".join(lines)), VERSION=plain(version))
-    contents = blocks.Contents(file)
+    level = blocks.level_for(log.size)
+    contents = blocks.Contents(file, level)
     session, log_format = read_session(log, shown, choice, contents.put, runs.progress)
-    contents.end()
+    number_of_blocks = contents.end()
     if shown is listing:
         complete(listing, said, all_explained, report)
     log.check_unchanged()
@@ -210,8 +212,8 @@ def write_page(file, runs, given):
         "small": given.small,
         "smallest": smallest and smallest_of(smallest),
         "texts": texts,
-        "blocks": contents.counts,
+        "blocks": number_of_blocks,
     }
     pieces = blocks.index_pieces(index, session.rows, listing.violations)
-    blocks.write_block(file, "session", blocks.compressed(pieces))
+    blocks.write_block(file, "session", blocks.compressed(pieces, level))
     page.write_until(None)

@@ -1,6 +1,8 @@
 """Reads the objects that `lspcheck show --long --json` and `explain --all --json` write."""
 
+import json
 from dataclasses import dataclass, field
+from itertools import islice
 
 from program import Failed
 from report_lines import NoObject, object_of
@@ -13,10 +15,27 @@ EVENTS = set(KINDS[:5])
 ENDS = (107, 303, 407)
 
 
+# How many lines are read at once, which is faster than one by one.
+TOGETHER = 500
+
+
+def objects_of(lines):
+    """The objects of some lines; they are read one by one if that is not what they are."""
+    try:
+        found = json.loads(f"[{','.join(lines)}]")
+        if len(found) == len(lines) and all(isinstance(it["is"], str) for it in found):
+            return found
+    except (ValueError, TypeError, LookupError, RecursionError):
+        pass
+    return map(object_of, lines)
+
+
 def objects_in(lines, command):
     """The objects that a command of lspcheck writes with --json, one on each line."""
+    lines = iter(lines)
     try:
-        yield from map(object_of, lines)
+        while some := list(islice(lines, TOGETHER)):
+            yield from objects_of(some)
     except NoObject as error:
         raise Failed(f"lspcheck {command}: {error}") from error
 

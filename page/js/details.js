@@ -95,7 +95,7 @@ function suspectPart(suspect, isOpen) {
   if (!row || row.method !== "textDocument/didChange") {
     return head;
   }
-  head.append(" ", element("code", "summary", visibleText(row.summary)));
+  head.append(" ", element("code", "summary", visibleText(summaryOf(row))));
   return element("div", "suspect", head, folded("what it changed", () => whatChanged(row), isOpen));
 }
 

@@ -155,7 +155,7 @@ function labelOf(row) {
     row.version === null ? "" : `version ${row.version}`, violation,
     row.violation?.follows ? "follows" : "",
     suspectEvents.has(row.event) && !row.violation ? "suspect" : "",
-    row.cancel ? "cancelled" : "", equalEvents.has(row.event) ? "last equal" : "", row.summary,
+    row.cancel ? "cancelled" : "", equalEvents.has(row.event) ? "last equal" : "", summaryOf(row),
   ].filter(Boolean).map(namedText).join(", ");
 }
 
@@ -170,7 +170,7 @@ function messageCell(row) {
     element("span", "what",
       ...apart([element("span", "names", ...nameOf(row)), id, file, version])),
     element("span", "says", ...apart(tagsOf(row)),
-      element("span", "summary", visibleText(row.excerpt ?? row.summary))));
+      element("span", "summary", visibleText(row.excerpt ?? summaryOf(row)))));
   made.setAttribute("aria-expanded", "false");
   made.setAttribute("aria-label", labelOf(row));
   return made;

@@ -373,9 +373,9 @@ def gives_away_little(page, program, log):
     index, contents = logs.data_of(text)
     named = {int(it) for it in re.findall(r"event (\d+)", output(program, "explain", log).decode())}
     assert {row["event"] for row in index["rows"]} == named | {1, 2}, (named, len(index["rows"]))
-    data = " ".join(logs.blocks_of(text).values())
+    data = b" ".join(logs.blocks_of(text).values()).decode()
     assert "value_1;" not in data and "value_39;" not in data and "value_19;" in data, "texts"
-    assert not any(it and "value_1;" in it for it in contents) and "value_1;" in whole
+    assert not any(it and b"value_1;" in it for it in contents) and "value_1;" in whole
     page.open()
     texts = [output(program, "explain", it, log).decode() for it in ("--by-messages", "--in-editor")]
     shown = page.run("return [...document.querySelectorAll('.first .pair.differs .line-number')].map((it) => it.innerText)")
