@@ -1,4 +1,4 @@
-"""Reads the objects that `lspcheck show --long --json` and `explain --all --json` write."""
+"""Reads the objects that `lspcheck show --long --json` and `explain --all --notes --json` write."""
 
 import json
 from dataclasses import dataclass, field
@@ -100,6 +100,8 @@ class Listing:
         self.sides = [0, 0, 0]
         # The first violations, and how many more there are.
         self.violations, self.unlisted = [], 0
+        # What breaks no rule, and is worth knowing.
+        self.notes = []
         # What comes after the events: the report, the fault of the log, or the count.
         self.ending = []
 
@@ -139,16 +141,19 @@ class Listing:
 
 
 def explained(objects, most):
-    """For the first violations of `explain --all`, by rule, event and side: the objects."""
-    found, last = {}, None
+    """Of `explain --all --notes`: for the first violations, by rule, event and side, the objects;
+    and all notes."""
+    found, notes, last = {}, [], None
     try:
         for it in objects:
-            if it["is"] == "no" and len(found) < most:
+            if it["is"] == "note":
+                notes.append(it)
+            elif it["is"] == "no" and len(found) < most:
                 last = found[it["rule"], it["event"], it["who"]] = [it]
             elif it["is"] in ("no", "offences", "bad log"):
-                return found
+                last = None
             elif last:
                 last.append(it)
     except LookupError as error:
         raise Failed(f"lspcheck explain: it wrote a violation without its members: {it}") from error
-    return found
+    return found, notes

@@ -24,7 +24,8 @@ const EDITOR = 0, SERVER = 1, SNAPSHOT = 2;
 const SIDES = ["editor", "server", "snapshot"];
 
 // The rows, with a member for each column of the index.
-const rows = session.rows.event.map((event, index) => ({ event, index, violation: null }));
+const rows = session.rows.event.map((event, index) =>
+  ({ event, index, violation: null, notes: [] }));
 for (const [name, values] of Object.entries(session.rows)) {
   values.forEach((value, index) => {
     rows[index][name] = value;
@@ -53,6 +54,10 @@ for (const violation of session.violations) {
   if (row) {
     row.violation = violation;
   }
+}
+
+for (const note of session.notes) {
+  rowOfEvent(note.event)?.notes.push(note);
 }
 
 // The bytes of a content, or null if it was left out of the page.

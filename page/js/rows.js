@@ -143,6 +143,9 @@ function tagsOf(row) {
   if (equalEvents.has(row.event)) {
     tags.push(element("span", "tag tag-equal", "last equal"));
   }
+  if (row.notes.length) {
+    tags.push(element("span", "tag tag-note", "note"));
+  }
   return tags;
 }
 
@@ -155,7 +158,8 @@ function labelOf(row) {
     row.version === null ? "" : `version ${row.version}`, violation,
     row.violation?.follows ? "follows" : "",
     suspectEvents.has(row.event) && !row.violation ? "suspect" : "",
-    row.cancel ? "cancelled" : "", equalEvents.has(row.event) ? "last equal" : "", summaryOf(row),
+    row.cancel ? "cancelled" : "", equalEvents.has(row.event) ? "last equal" : "",
+    row.notes.length ? "note" : "", summaryOf(row),
   ].filter(Boolean).map(namedText).join(", ");
 }
 

@@ -5,6 +5,7 @@ const CHOICES = new Map([
   ["server", (row) => row.side === SERVER],
   ["snapshots", (row) => row.side === SNAPSHOT],
   ["violations", (row) => row.violation !== null],
+  ["notes", (row) => row.notes.length > 0],
   ["requests without answer", (row) => row.kind === "request" && !row.partner && !row.violation],
 ]);
 // How long a search may take before the page is drawn again, and how much is shown around a word.

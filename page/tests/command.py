@@ -317,7 +317,7 @@ exit 9""")
     done = run(EXAMPLE, "--program", waits, "-o", place / "x.html")
     started = (place / "started").read_text().split("\n")[:-1]
     assert done.returncode == 0, done.stderr
-    assert sorted(started) == ["explain --all --json --quiet", "explain --json --quiet", "show --all --long --json --quiet"], started
+    assert sorted(started) == ["explain --all --notes --json --quiet", "explain --json --quiet", "show --all --long --json --quiet"], started
 
 
 def shows_progress_on_a_terminal(program, place):

@@ -50,10 +50,10 @@ def shows_each_event(page, program, log):
     assert [int(it["event"]) for it in closed] == sorted(wanted.events), [it["event"] for it in closed]
     assert [it["event"] for it in opened] == [it["event"] for it in closed]
     assert [it["top"] for it in closed] == sorted(it["top"] for it in closed)
-    suspects = suspects_of(program, log)
+    suspects, noted = suspects_of(program, log), set(events_of_notes(program, log))
     for row in closed:
         event = wanted.events[int(row["event"])]
-        check_row(row, event, suspects)
+        check_row(row, event, suspects, noted)
         assert json.dumps(event.get("id"), ensure_ascii=False) in (row["id"] or "#null")[1:]
     for row in opened:
         check_details(row, wanted.events[int(row["event"])], wanted)
@@ -65,7 +65,21 @@ def suspects_of(program, log):
     return set(map(int, re.findall(r"^suspect \S+ event (\d+)", found, re.M)))
 
 
-def check_row(row, event, suspects):
+def notes_of(program, log):
+    """The lines of all notes, also of those after a violation."""
+    return [it for it in lines_of(program, "explain", "--all", "--notes", log) if it.startswith("note ")]
+
+
+def events_of_notes(program, log):
+    """For each event, its notes."""
+    found = {}
+    for line in notes_of(program, log):
+        if event := re.search(r" event (\d+) \w+ \d+$", line):
+            found.setdefault(int(event[1]), []).append(line)
+    return found
+
+
+def check_row(row, event, suspects, noted):
     method, kind = event.get("method"), event["kind"]
     if kind in ("result", "error"):
         asked = event.get("request", {}).get("method")
@@ -85,9 +99,11 @@ def check_row(row, event, suspects):
         tags = [f"{event['rule']} {event['text']}"]
     elif event["event"] in suspects:
         tags = ["suspect"]
-    assert [it for it in row["tags"] if it != "last equal"] == tags + ["cancelled"] * ("cancel" in event), (row, event)
+    tags += ["cancelled"] * ("cancel" in event) + ["note"] * (event["event"] in noted)
+    assert [it for it in row["tags"] if it != "last equal"] == tags, (row, event)
     said = [f"event {event['event']}", "snapshot" if kind == "snapshot" else f"{event['side']}, {kind}"]
     said += [f"rule {event['rule']}, {event['text']}"] if "rule" in event else []
+    said += ["note"] if event["event"] in noted else []
     assert all(it in row["label"] for it in [*said, method or ""]), (row["label"], said)
     if "rule" not in event:
         said = [f"version {event['version']}" if "version" in event else "", f"id {json.dumps(event['id'])}" if "id" in event else ""]
@@ -201,6 +217,8 @@ def shows_the_head(page, program, log):
         assert page.text("h1").endswith(wanted.check[1]), head
         assert wanted.check[0].split()[1] in page.text("h1"), head
     plural = lambda number, noun: f"{number:,} {noun}{'' if number == 1 else 's'}"
+    so = [json.loads(it[3:]) for it in wanted.explain if it.startswith("so ")]
+    assert page.run(READ + "return plain(document.querySelector('h1 + .so'))") == (f"{so[0]} lspcheck" if so else None), (head, so)
     assert plural(sum(counts), "event") in head, head
     assert f"{plural(counts[0], 'message')} of the editor and {counts[1]:,} of the server" in head, head
     assert f"· {plural(counts[2], 'snapshot')} ·" in head, head
@@ -347,8 +365,12 @@ def words_of(line):
 
 
 def says_each_note(page, program, log):
-    """The notes of `explain`, in its order, as sentences."""
-    notes = [words_of(it)[1] for it in lines_of(program, "explain", log) if it.startswith("note ")]
+    """The notes of `explain --all --notes`, in its order, as sentences, and each at its event."""
+    notes = [words_of(it)[1] for it in notes_of(program, log)]
+    for event, lines in events_of_notes(program, log).items():
+        page.open(link=f"#event-{event}")
+        shown = page.run(READ + "return [...document.querySelectorAll('.selected .details .notes li')].map(plain)")
+        assert shown == [note_words(name, values) for name, *values in (words_of(it)[1] for it in lines)], (shown, lines)
     page.open()
     shown = page.run(READ + "return [...document.querySelectorAll('#overview .card')].filter((it) => plain(it).startsWith('Notes')).flatMap((it) => [...it.querySelectorAll('li')].map(plain))")
     assert shown == [note_words(name, values) for name, *values in notes], (shown, notes)
@@ -380,6 +402,9 @@ def explains_each_violation(page, program, log):
                 assert said is None or [label, said] in facts, (line, said, facts)
             elif word in ("by-messages", "in-editor", "saved", "begins", "similar", "member"):
                 assert any(values[0] in text for _, text in facts), (line, facts)
+        so = [words_of(it)[1][0] for it in lines if it.startswith("so ")]
+        first = page.run(READ + "return plain(document.querySelector('.selected .details > .so'))")
+        assert first == (f"{so[0]} lspcheck" if so else None), (so, first)
         about = page.run(READ + "return [...document.querySelectorAll('.selected .about-rule dd')].map(plain)")
         assert about == rule_words(rule), (about, rule_words(rule))
         raw = page.run("const it = document.querySelector('.selected .why .folded'); it.open = true; return 0")
