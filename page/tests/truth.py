@@ -10,6 +10,7 @@ import subprocess
 import logs
 from data import EXAMPLES, NO, lines_of, output, written
 from expected import READ, TEXTS, Expected, later, version_label
+from window import WIDTHS
 
 ROWS = READ + """
 return [...document.querySelectorAll("#lanes > .row")].filter((it) => it.querySelector(".say")).map((row) => {
@@ -463,9 +464,11 @@ def shows_both_texts(page, program, log):
     """The text by the messages on the left, the editor's own on the right."""
     texts = [output(program, "explain", it, log).decode() for it in ("--by-messages", "--in-editor")]
     assert texts[0] != texts[1]
-    page.open()
-    top = page.run("return document.querySelector('.first .pair.differs, .first .pair').getBoundingClientRect().top")
-    assert top < 400, top
+    for width in WIDTHS:
+        page.open(width)
+        tops = page.run("return ['.first .pair', '.first .pair.differs'].map((it) => "
+                        "document.querySelector(it).getBoundingClientRect().top)")
+        assert tops[0] < 400 and tops[1] < 450, (width, tops)
     assert page.texts(".first .heads > div")[0] == "By the messages"
     assert page.texts(".first .heads > div")[1] in ("In the editor", "Saved by the editor")
     shown = [pair for pair in page.all(".first .pair.equal")]
