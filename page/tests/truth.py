@@ -278,6 +278,10 @@ def code_words(values):
     return f"by the messages {sent}, in the other text {other}"
 
 
+def units_long(number):
+    return f"{number} unit{'' if number == '1' else 's'} long"
+
+
 def ends_words(values):
     if values[0] == "converted":
         sent, other = ({"\n": "LF", "\r\n": "CR LF", "\r": "CR"}[it] for it in values[1:])
@@ -301,7 +305,7 @@ SENTENCES = {
     "changes": ("Changes", lambda it: f"{it[0]} in this message"),
     "encoding": ("Columns", lambda it: f"are counted in units of {it[0].upper()}"),
     "change": ("Edit", change_words),
-    "length": ("That line", lambda it: f"is {it[0]} units long, without its line end"),
+    "length": ("That line", lambda it: f"is {units_long(it[0])}, without its line end"),
     "inside": ("Inside", lambda it: f"the column falls into the character {it[0]}"),
     "fits": ("It would fit", lambda it: f"if columns were counted in {' or '.join(it).upper()}"),
     "lines-by": ("It would fit", lambda it: f"if lines ended as {LINE_KINDS[it[0]]}"),
@@ -331,13 +335,14 @@ def note_words(name, values):
     if name in MISUSES:
         return f"{values[0]} {MISUSES[name]}: {event_words(values[1:])}"
     if name == "past-end":
-        what = "the text has {} lines" if values[2] == "lines" else "that line is {} units long, without its line end"
-        return f"{event_words(values[4:])} changes a range at {place(values)}, past the end: {what.format(values[3])}"
+        lines = "1 line" if values[3] == "1" else f"{values[3]} lines"
+        what = f"the text has {lines}" if values[2] == "lines" else f"that line is {units_long(values[3])}, without its line end"
+        return f"{event_words(values[4:])} changes a range at {place(values)}, past the end: {what}"
     if name == "range-length":
         here = values.index("event")
         fits = [it.upper() for it in values[4:here]]
         more = f"; in units of {' or '.join(fits)} it is {values[0]} long" if fits else ""
-        return f"{event_words(values[here:])} has a rangeLength of {values[0]}, and its range is {values[2]} units long{more}"
+        return f"{event_words(values[here:])} has a rangeLength of {values[0]}, and its range is {units_long(values[2])}{more}"
     if name == "refused":
         what = f"A request about {values[1]}, which is open, was refused"
         return f"{what}: {event_words(values[2:])} is the error {values[0]} (InvalidParams)"
