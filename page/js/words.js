@@ -193,8 +193,9 @@ function noteOn(words) {
 
 // A note on a change of a didChange whose position is past the end of its line, or of the text.
 function pastEnd(it) {
-  const end = it.lines === undefined ? `that line is ${unitsLong(it.length)}, without its line end` :
-    `the text has ${it.lines === 1 ? "1 line" : `${it.lines} lines`}`;
+  const lines = it.lines === 1 ? "1 line" : `${it.lines} lines`;
+  const end = it.lines !== undefined ? `the text has ${lines}` :
+    `that line is ${unitsLong(it.length)}, without its line end`;
   const place = shownPlace(it.line, it.column);
   return [...shownEvent(it), ` changes a range at ${place}, past the end: ${end}`];
 }
