@@ -252,6 +252,7 @@ def has_the_smallest_session(page, log, program):
     wanted = smallest_of(program, log).removesuffix("\n")
     assert wanted.count("\n---\n") == 3, wanted
     assert f"\n```\n{wanted}\n```\n" in copied_markdown(page), wanted
+    assert page.text(".smallest .command") == f"lspcheck redact '{log.name}' | lspcheck-page --small -"
     page.run("document.querySelector('.smallest .folded').open = true")
     page.wait("return document.querySelector('.smallest pre')")
     assert page.text(".smallest summary") == "4 messages", page.text(".smallest summary")
