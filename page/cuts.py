@@ -197,7 +197,7 @@ def said_about(choice, events, shown):
 
 
 def is_short(runs, listed, given):
-    """Whether the page surely shows a whole log: lspcheck writes at least a line for each event."""
+    """Whether the page surely shows a whole log: lspcheck writes a line for each event."""
     is_small = runs.log.size <= given.most_bytes and listed.count() <= given.most_events
     return is_small and not given.small
 

@@ -21,6 +21,7 @@ SCRIPTS = [
     "data.js",
     "visible.js",
     "texts.js",
+    "summaries.js",
     "documents.js",
     "difference.js",
     "nodes.js",
@@ -63,13 +64,12 @@ def exit_of(log):
         return []
 
 
-def complete(listing, said, all_explained, report):
-    """Adds what `explain --all` says to the violations that it explains, after all were listed."""
+def complete(listing, all_explained, report):
+    """Adds what `explain --all --notes` says to the violations that it explains, after all were
+    listed, and its notes."""
     if not listing.ending:
         raise Failed("lspcheck show: what it wrote has no end")
-    if said[0]["is"] != "no":
-        return
-    found = explained(all_explained.objects(), MOST_EXPLAINED)
+    found, listing.notes = explained(all_explained.objects(), MOST_EXPLAINED)
     for violation in listing.violations:
         objects = found.get((violation.rule, violation.event, violation.who), [])
         violation.facts, violation.lines = objects[1:], report.lines(objects)
@@ -77,6 +77,7 @@ def complete(listing, said, all_explained, report):
 
 def only_first(listing, said):
     """Leaves out all violations but the first, and the notes on what is elsewhere in the log."""
+    listing.notes.clear()
     listing.unlisted += len(listing.violations[1:])
     del listing.violations[1:]
     said[:] = [it for it in said if it["is"] not in ("note", "notes")]
@@ -160,6 +161,7 @@ def index_of(log, said, listing, session):
         "exit": exit_of(log),
         "said": said,
         "ending": listing.ending,
+        "notes": listing.notes,
         "kinds": KINDS,
         "events": listing.events,
         "sides": listing.sides,
@@ -180,14 +182,14 @@ def write_page(file, runs, given):
     version, log, report = runs.program.version(), runs.log, words_of_reports()
     # All at once: a program compiled with checks takes a second for each megabyte.
     listed = runs.start("show", "--all", "--long", "--json")
-    all_explained = runs.start("explain", "--all", "--json")
+    all_explained = runs.start("explain", "--all", "--notes", "--json")
     said = report_of(runs)
     texts = texts_of(runs, said[0])
     smallest = start_smallest(runs) if given.small else None
     listing = Listing(listed.objects(), 2 * given.most_events + LISTED_ALWAYS)
     shown, choice = listing, cuts.Everything()
     if not cuts.is_short(runs, listed, given):
-        complete(listing.read(), said, all_explained, report)
+        complete(listing.read(), all_explained, report)
         shown, choice = Listing(listed.objects()), cuts.choice_of(runs, listed, listing, given)
     if given.small:
         only_first(listing, said)
@@ -195,11 +197,12 @@ def write_page(file, runs, given):
     page, lines = Document(file), report.lines(said)
     name = plain(log.name or "standard input")
     page.write_until("DATA", NAME=name, REPORT=plain("\n".join(lines)), VERSION=plain(version))
-    contents = blocks.Contents(file)
+    level = blocks.level_for(log.size)
+    contents = blocks.Contents(file, level)
     session, log_format = read_session(log, shown, choice, contents.put, runs.progress)
-    contents.end()
+    number_of_blocks = contents.end()
     if shown is listing:
-        complete(listing, said, all_explained, report)
+        complete(listing, all_explained, report)
     log.check_unchanged()
     index = {
         **index_of(log, said, listing, session),
@@ -210,8 +213,8 @@ def write_page(file, runs, given):
         "small": given.small,
         "smallest": smallest and smallest_of(smallest),
         "texts": texts,
-        "blocks": contents.counts,
+        "blocks": number_of_blocks,
     }
     pieces = blocks.index_pieces(index, session.rows, listing.violations)
-    blocks.write_block(file, "session", blocks.compressed(pieces))
+    blocks.write_block(file, "session", blocks.compressed(pieces, level))
     page.write_until(None)

@@ -1,6 +1,8 @@
-"""Reads the objects that `lspcheck show --long --json` and `explain --all --json` write."""
+"""Reads the objects that `lspcheck show --long --json` and `explain --all --notes --json` write."""
 
+import json
 from dataclasses import dataclass, field
+from itertools import islice
 
 from program import Failed
 from report_lines import NoObject, object_of
@@ -13,10 +15,27 @@ EVENTS = set(KINDS[:5])
 ENDS = (107, 303, 407)
 
 
+# How many lines are read at once, which is faster than one by one.
+TOGETHER = 500
+
+
+def objects_of(lines):
+    """The objects of some lines; they are read one by one if that is not what they are."""
+    try:
+        found = json.loads(f"[{','.join(lines)}]")
+        if len(found) == len(lines) and all(isinstance(it["is"], str) for it in found):
+            return found
+    except (ValueError, TypeError, LookupError, RecursionError):
+        pass
+    return map(object_of, lines)
+
+
 def objects_in(lines, command):
     """The objects that a command of lspcheck writes with --json, one on each line."""
+    lines = iter(lines)
     try:
-        yield from map(object_of, lines)
+        while some := list(islice(lines, TOGETHER)):
+            yield from objects_of(some)
     except NoObject as error:
         raise Failed(f"lspcheck {command}: {error}") from error
 
@@ -81,6 +100,8 @@ class Listing:
         self.sides = [0, 0, 0]
         # The first violations, and how many more there are.
         self.violations, self.unlisted = [], 0
+        # What breaks no rule, and is worth knowing.
+        self.notes = []
         # What comes after the events: the report, the fault of the log, or the count.
         self.ending = []
 
@@ -120,16 +141,19 @@ class Listing:
 
 
 def explained(objects, most):
-    """For the first violations of `explain --all`, by rule, event and side: the objects."""
-    found, last = {}, None
+    """Of `explain --all --notes`: for the first violations, by rule, event and side, the objects;
+    and all notes."""
+    found, notes, last = {}, [], None
     try:
         for it in objects:
-            if it["is"] == "no" and len(found) < most:
+            if it["is"] == "note":
+                notes.append(it)
+            elif it["is"] == "no" and len(found) < most:
                 last = found[it["rule"], it["event"], it["who"]] = [it]
             elif it["is"] in ("no", "offences", "bad log"):
-                return found
+                last = None
             elif last:
                 last.append(it)
     except LookupError as error:
         raise Failed(f"lspcheck explain: it wrote a violation without its members: {it}") from error
-    return found
+    return found, notes

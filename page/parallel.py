@@ -21,8 +21,11 @@ class Progress:
         self.is_on = sys.stderr is not None and sys.stderr.isatty()
         self.last = time.monotonic()
 
+    def is_due(self):
+        return self.is_on and time.monotonic() - self.last >= 1
+
     def advance(self, who, read):
-        if self.is_on and time.monotonic() - self.last >= 1:
+        if self.is_due():
             self.last = time.monotonic()
             read //= MEGABYTE
             percent = 100 * read // self.size if self.size else 100
@@ -73,9 +76,9 @@ class Run:
         return self.out.read()
 
     def count(self):
-        """How many lines the command writes."""
+        """How many lines the command writes about an event."""
         self.done().out.seek(0)
-        return sum(1 for _ in self.out)
+        return sum('"event":' in line for line in self.out)
 
     def objects(self):
         """The objects that the command writes with --json, one on each line."""

@@ -6,16 +6,18 @@ from array import array
 from blocks import json_of
 from contents import FRAMES, Contents, Other
 from listing import KINDS, SNAPSHOT
-from summaries import SYNCS, at, cut, summary, sync_of
 
 # How many violations are explained.
 MOST_EXPLAINED = 500
 LONGEST_NAME = 300
 ENCODINGS = ("utf-8", "utf-16", "utf-32")
+SYNCS = {0: "none", 1: "full", 2: "incremental"}
+# The methods whose messages are always read.
+READ = ("initialize", "$/cancelRequest")
 # The columns of the rows, by the names that the scripts of the page use: those of numbers, and
-# those whose values are any JSON.
-NUMBERS = ["event", "side", "number", "kind", "method", "document", "bytes"]
-VALUES = ["id", "version", "summary"]
+# those whose values are any JSON. `block` is that of its content, -1 if the page does not have it.
+NUMBERS = ["event", "side", "number", "kind", "method", "document", "bytes", "block"]
+VALUES = ["id", "version"]
 JOINS = [
     # For a response or a cancel, the event of its request; for a request, that of its response.
     "partner",
@@ -26,6 +28,24 @@ JOINS = [
 PLACES = {kind: place for place, kind in enumerate(KINDS)}
 # How many rows are put into the columns at once, which is faster than one by one.
 TOGETHER = 1000
+# How many bytes of a log are read at once.
+BUFFER = 1 << 18
+
+
+def at(value, *path):
+    """The member of a JSON value that is at the end of a path, or None."""
+    try:
+        for name in path:
+            if value.__class__ is str:
+                return None
+            value = value[name]
+    except (LookupError, TypeError):
+        return None
+    return value
+
+
+def cut(text, most):
+    return text if len(text) <= most else text[: most - 1] + "…"
 
 
 class Columns:
@@ -34,20 +54,20 @@ class Columns:
     def __init__(self):
         self.numbers = {name: array("q") for name in NUMBERS}
         self.values = {name: bytearray() for name in VALUES}
-        self.joins = {name: array("q") for name in JOINS}
-        self.latest = []
+        # What joins have found, by the place of a row.
+        self.joins = {name: {} for name in JOINS}
+        self.count, self.latest = 0, []
 
     def __len__(self):
-        return len(self.joins["partner"])
+        return self.count
 
-    def add(self, row, partner):
+    def add(self, row):
         """Adds a row, whose values are in the order of the names above. Returns its place."""
         self.latest.append(row)
-        for name, column in self.joins.items():
-            column.append(partner if name == "partner" else 0)
         if len(self.latest) == TOGETHER:
             self.settle()
-        return len(self) - 1
+        self.count += 1
+        return self.count - 1
 
     def settle(self):
         """Puts the latest rows into the columns."""
@@ -62,8 +82,10 @@ class Columns:
     def json(self):
         """Pairs of a name and the JSON of its column."""
         self.settle()
-        for name, column in {**self.numbers, **self.joins}.items():
-            yield name, str(column.tolist()).replace(" ", "").encode()
+        for name, column in self.numbers.items():
+            yield name, json_of(column.tolist())
+        for name, found in self.joins.items():
+            yield name, json_of([found.get(place, 0) for place in range(self.count)])
         for name, column in self.values.items():
             yield name, b"[%b]" % column[:-1]
 
@@ -107,22 +129,23 @@ class Joins:
         return self.open[event.side].get(key, (None, None))
 
 
-def text_of(content):
-    """A content as a text, in which each byte that is not UTF-8 is a lone surrogate."""
-    return content.decode("utf-8", "surrogateescape")
-
-
-def message_of(event, text):
+def message_of(event, content):
     """The JSON value of a message, or None."""
     if event.side == SNAPSHOT or event.rule in FRAMES:
         return None
     try:
-        if not text.isascii():
-            # Fails if there are bytes that are not UTF-8.
-            text.encode()
-        return json.loads(text)
+        return json.loads(content.decode())
     except (ValueError, RecursionError):
         return None
+
+
+def check_listed(event, content):
+    """Fails if a message is not the one that was listed, as far as its method tells."""
+    word = event.method or event.kind
+    # One that is written with escapes is not found like this.
+    is_found = event.side == SNAPSHOT or word.encode(errors="surrogatepass") in content
+    if not is_found and at(message_of(event, content), "method") != event.method:
+        raise Other()
 
 
 def describe(event, message):
@@ -161,6 +184,13 @@ def name_of(info):
     return {name: cut(it, LONGEST_NAME) for name, it in found.items() if isinstance(it, str)}
 
 
+def sync_of(result):
+    """The kind of synchronisation that a server asks for."""
+    sync = at(result, "capabilities", "textDocumentSync")
+    number = at(sync, "change") if isinstance(sync, dict) else sync
+    return SYNCS.get(number, "none") if isinstance(number, int) else "none"
+
+
 class Session:
     """The rows of the page, one for each event that it shows. Each content is put where it is kept
     as soon as it is read."""
@@ -195,60 +225,61 @@ class Session:
             if not event.rule:
                 picked = at(result, "capabilities", "positionEncoding")
                 self.encoding = picked if picked in ENCODINGS else "utf-16"
-                self.sync = SYNCS.get(sync_of(result), "none")
+                self.sync = sync_of(result)
 
     def take(self, event, content, is_shown, is_whole):
-        """Takes the next event of the log, and adds a row if it is shown."""
-        text, message, listed = text_of(content), None, event.uri
-        is_read = is_shown or event.rule or event.method in ("$/cancelRequest", "initialize")
-        if is_read or event.kind == "result":
-            message = message_of(event, text)
-        if is_read and not event.rule and event.method != at(message, "method"):
-            raise Other()
-        describe(event, message)
+        """Takes the next event of the log, and adds a row if it is shown. Its message is read only
+        if the row needs more than what was listed: the page reads the rest when it is looked at."""
+        listed, message = event.uri, None
+        is_named = listed is not None or event.kind in ("result", "error")
+        if event.rule or event.method in READ or (is_shown and not is_named):
+            message = message_of(event, content)
+            describe(event, message)
+        if not event.rule:
+            check_listed(event, content)
         self.named.add(event.uri if event.rule else listed)
         request = self.join(event, message)
         asked = request.method if request and event.kind != "notification" else None
         if "initialize" in (event.method, asked):
-            self.note_handshake(event, message, asked)
+            self.note_handshake(event, message_of(event, content), asked)
         row = None
         if is_shown:
-            row = self.add(event, message, request, asked, len(content))
-            self.put(text if is_whole else None)
+            block = self.put(content) if is_whole else -1
+            row = self.add(event, request, asked, len(content), block)
         self.joins.ask(event, row)
 
-    def add(self, event, message, request, asked, size):
+    def add(self, event, request, asked, size, block):
         """Adds the row of an event. Returns its place among the rows."""
         has_id = event.id is not None or event.kind in ("result", "error")
-        is_text = event.side == SNAPSHOT
-        return self.rows.add(
-            (
-                event.event,
-                event.side,
-                event.number,
-                PLACES[event.kind],
-                self.methods.number(event.method or asked),
-                self.documents.number(event.uri),
-                size,
-                shown_id(event.id) if has_id else None,
-                event.version,
-                f"{size:,} bytes" if is_text else summary(message, asked),
-            ),
-            request.event if request else 0,
-        )
+        row = self.rows.add((
+            event.event,
+            event.side,
+            event.number,
+            PLACES[event.kind],
+            self.methods.number(event.method or asked),
+            self.documents.number(event.uri),
+            size,
+            block,
+            shown_id(event.id) if has_id else None,
+            event.version,
+        ))
+        if request:
+            self.rows.joins["partner"][row] = request.event
+        return row
 
 
 def read_session(log, listing, choice, put, progress):
     """The session of the events that are chosen, and the format of the log."""
     session = Session(put)
-    with open(log.path, "rb") as file:
+    with open(log.path, "rb", buffering=BUFFER) as file:
         contents = Contents(file)
         for event in listing:
             content = contents.of(event)
             is_shown = choice.is_shown(event)
             is_whole = is_shown and choice.is_whole(event, content)
             session.take(event, content, is_shown, is_whole)
-            progress.advance("it", file.tell())
+            if progress.is_due():
+                progress.advance("it", file.tell())
     session.rows.settle()
     session.named.discard(None)
     return session, contents.format

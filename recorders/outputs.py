@@ -62,15 +62,23 @@ def open_input():
             os.close(file)
 
 
+def is_path(script):
+    """Whether a script is one for contributors, which is named by its path."""
+    return "/" in script and not script.startswith("./")
+
+
 def ended(script, main, *words):
     """Runs the main function of a script, and gives its status, once all that it wrote is
-    written."""
+    written. The help of a script for contributors is its docstring."""
     open_input()
     if sys.stdout is None:
         say(f"{script}: standard output: {os.strerror(errno.EBADF)}")
         return 3
     guard(script)
     try:
+        if is_path(script) and sys.argv[1:] in (["-h"], ["--help"]):
+            print(sys.modules["__main__"].__doc__.strip())
+            return 0
         return main(*words)
     finally:
         sys.stdout.flush()

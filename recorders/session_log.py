@@ -5,7 +5,7 @@ It cuts bytes where the lengths in them end. Whether they keep the rules is for 
 """
 
 import re
-from typing import NamedTuple
+from collections import namedtuple
 
 FIRST_LINE = b"lsp-session 2\n"
 EDITOR, SERVER, SNAPSHOT = b"E", b"S", b"T"
@@ -72,13 +72,10 @@ class Frames:
             yield content
 
 
-class Record(NamedTuple):
-    """What the editor wrote or read, or a snapshot."""
+class Record(namedtuple("Record", "kind data version uri", defaults=(None, None))):
+    """What the editor wrote or read, or a snapshot, which alone has a version and a URI."""
 
-    kind: bytes
-    data: bytes
-    version: int = None
-    uri: bytes = None
+    __slots__ = ()
 
     def encoded(self):
         """The bytes of the record."""

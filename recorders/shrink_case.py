@@ -7,12 +7,11 @@ from contents import Contents
 from listing import EDITOR, SERVER, SNAPSHOT, Event, Listing, objects_in
 from messages import encoded
 from program import Failed
-from session import describe, message_of, text_of
+from session import at, describe, message_of
 from session_log import Record, as_records, framed
 from session_log import EDITOR as WRITTEN
 from session_log import SERVER as READ
 from session_log import SNAPSHOT as TEXT
-from summaries import at
 
 KINDS = {EDITOR: WRITTEN, SERVER: READ}
 OPEN, CHANGE = "textDocument/didOpen", "textDocument/didChange"
@@ -88,7 +87,7 @@ class Case:
 
 def item_of(event, content):
     """An event that was read. Of a message that breaks a rule, its words come from its content."""
-    message = message_of(event, text_of(content))
+    message = message_of(event, content)
     describe(event, message)
     uri = event.uri
     if event.side != SNAPSHOT:

@@ -6,9 +6,8 @@ from dataclasses import replace
 from cuts import can_name
 from listing import EDITOR
 from messages import opened
-from session import key_of, message_of, text_of
+from session import at, key_of, message_of
 from shrink_case import CHANGE, CLOSE, OPEN, SAVE
-from summaries import at
 
 NUMBER = re.compile(r"\bevent (\d+)")
 # The rules whose explanation compares texts, and those about a message to a document that is open.
@@ -65,7 +64,7 @@ class Base:
         language = language if isinstance(language, str) else "plaintext"
         content = opened(self.uri, language, self.item.version, text)
         event = replace(self.item.event, method=OPEN)
-        value = message_of(event, text_of(content))
+        value = message_of(event, content)
         return replace(self.item, event=event, content=content, value=value)
 
     def begin(self, case, program):

@@ -12,9 +12,9 @@ from dataclasses import dataclass, replace
 
 from cuts import LINE, can_name
 from listing import EDITOR
+from session import at
 from shrink_case import CHANGE, OPEN, SAVE
 from shrink_events import TEXTS, word_of
-from summaries import at
 
 # If two texts have more lines from the first that differs to the last, these stay, unless they are
 # as many in both.

@@ -5,7 +5,7 @@ from dataclasses import replace
 
 from shrink_case import CHANGE, CLOSE, OPEN, SAVE
 from shrink_events import handshake_of
-from summaries import at
+from session import at
 
 # The members that rules read, in messages of each method; `*` stands for any name. The language is
 # not read, but servers want it.

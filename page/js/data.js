@@ -1,6 +1,6 @@
 // The data of the page, which is compressed: the index, and blocks of the contents of events.
 
-// The text of a block. Browsers decompress in pieces, so this waits.
+// The bytes of a block. Browsers decompress in pieces, so this waits.
 async function loaded(id) {
   const packed = atob(document.getElementById(id).textContent);
   const bytes = new Uint8Array(packed.length);
@@ -8,32 +8,39 @@ async function loaded(id) {
     bytes[at] = packed.charCodeAt(at);
   }
   const unpacked = new Blob([bytes]).stream().pipeThrough(new DecompressionStream("deflate"));
-  return new Response(unpacked).text();
+  return new Uint8Array(await new Response(unpacked).arrayBuffer());
 }
 
-const session = JSON.parse(await loaded("session"));
-const blockTexts =
-  await Promise.all(session.blocks.map((_, number) => loaded(`contents-${number}`)));
+const utf8 = new TextDecoder("utf-8", { fatal: true, ignoreBOM: true });
+
+const session = JSON.parse(utf8.decode(await loaded("session")));
+const blocks = await Promise.all(
+  Array.from({ length: session.blocks }, (_, number) => loaded(`contents-${number}`)));
 
 // What `explain` wrote first, and what `show --all` wrote about a damaged place, if there is one.
 const verdict = session.said[0], damage = session.ending.find((it) => it.is === "bad log");
 
 const EDITOR = 0, SERVER = 1, SNAPSHOT = 2;
 const SIDES = ["editor", "server", "snapshot"];
-// How many blocks of contents are kept after they were read.
-const KEPT_BLOCKS = 40;
 
 // The rows, with a member for each column of the index.
-const rows = session.rows.event.map((event, index) => ({ event, index, violation: null }));
+const rows = session.rows.event.map((event, index) =>
+  ({ event, index, violation: null, notes: [] }));
 for (const [name, values] of Object.entries(session.rows)) {
   values.forEach((value, index) => {
     rows[index][name] = value;
   });
 }
+// Where the content of a row begins in its block: in each, they are one after the other.
+let filled = null, start = 0;
 for (const row of rows) {
   row.kind = session.kinds[row.kind];
   row.method = session.methods[row.method];
   row.uri = session.documents[row.document];
+  if (row.block >= 0) {
+    row.start = row.block === filled ? start : 0;
+    [filled, start] = [row.block, row.start + row.bytes];
+  }
 }
 
 const indexOfEvent = new Map(rows.map((row) => [row.event, row.index]));
@@ -49,36 +56,47 @@ for (const violation of session.violations) {
   }
 }
 
-const blockStarts = [];
-session.blocks.reduce((start, length) => {
-  blockStarts.push(start);
-  return start + length;
-}, 0);
+for (const note of session.notes) {
+  rowOfEvent(note.event)?.notes.push(note);
+}
 
-const keptBlocks = new Map();
+// The bytes of a content, or null if it was left out of the page.
+function bytesOf(row) {
+  return row.block < 0 ? null : blocks[row.block].subarray(row.start, row.start + row.bytes);
+}
 
-function block(number) {
-  if (!keptBlocks.has(number)) {
-    keptBlocks.set(number, JSON.parse(blockTexts[number]));
-    if (keptBlocks.size > KEPT_BLOCKS) {
-      keptBlocks.delete(keptBlocks.keys().next().value);
-    }
+// How many bytes at a place are a character in UTF-8, or 0.
+function bytesOfCharacter(bytes, at) {
+  const first = bytes[at], length = first < 0x80 ? 1 : first < 0xe0 ? 2 : first < 0xf0 ? 3 : 4;
+  try {
+    return length === 1 || utf8.decode(bytes.subarray(at, at + length)) ? length : 0;
+  } catch {
+    return 0;
   }
-  return keptBlocks.get(number);
+}
+
+// The text of bytes. Each that is not UTF-8 is a lone surrogate in it.
+function textOfBytes(bytes) {
+  try {
+    return utf8.decode(bytes);
+  } catch {
+    let text = "", from = 0;
+    for (let at = 0; at < bytes.length;) {
+      const length = bytesOfCharacter(bytes, at);
+      if (length === 0) {
+        text += utf8.decode(bytes.subarray(from, at)) + String.fromCharCode(0xdc00 + bytes[at]);
+        from = at + 1;
+      }
+      at += Math.max(length, 1);
+    }
+    return text + utf8.decode(bytes.subarray(from));
+  }
 }
 
 // The content of a row's event, or null if it was left out of the page.
 function contentOf(row) {
-  let low = 0, high = blockStarts.length - 1;
-  while (low < high) {
-    const middle = (low + high + 1) >> 1;
-    if (blockStarts[middle] <= row.index) {
-      low = middle;
-    } else {
-      high = middle - 1;
-    }
-  }
-  return block(low)[row.index - blockStarts[low]];
+  const bytes = bytesOf(row);
+  return bytes && textOfBytes(bytes);
 }
 
 // The JSON value of a row's message, or undefined.

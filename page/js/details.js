@@ -1,5 +1,7 @@
 // What is shown when an event is opened: its violation, the texts that differ, its content.
 
+const MOST_NOTES = 60;
+
 function hasText(row) {
   return row.document >= 0 && settingRows[row.document].length > 0;
 }
@@ -63,6 +65,20 @@ function explanation(facts) {
   return list;
 }
 
+// The explanation of a violation in one sentence, if lspcheck wrote one.
+function soPart(violation) {
+  const [so] = factsOf(violation, "so");
+  return so ? element("p", "so", so.sentence, " ", source("lspcheck")) : null;
+}
+
+// Notes in words. Of very many, the rest is shown on demand.
+function notesList(notes) {
+  const item = (it) => element("li", "", ...noteInWords(it)), rest = notes.slice(MOST_NOTES);
+  return element("ul", "notes", ...notes.slice(0, MOST_NOTES).map(item),
+    rest.length === 0 ? null :
+      folded(count(rest.length, "more note"), () => element("div", "", ...rest.map(item))));
+}
+
 function whatWasWritten(violation) {
   return folded("The words of lspcheck", () => longText(violation.lines.join("\n"), "raw"));
 }
@@ -95,7 +111,7 @@ function suspectPart(suspect, isOpen) {
   if (!row || row.method !== "textDocument/didChange") {
     return head;
   }
-  head.append(" ", element("code", "summary", visibleText(row.summary)));
+  head.append(" ", element("code", "summary", visibleText(summaryOf(row))));
   return element("div", "suspect", head, folded("what it changed", () => whatChanged(row), isOpen));
 }
 
@@ -208,7 +224,11 @@ function detailsOf(row) {
       ...joinsOf(row), ...versionLinks(row)),
     row.uri ? element("p", "about uri", shownText(row.uri)) : null);
   if (row.violation) {
-    made.append(violationPart(row.violation));
+    fill(made, [soPart(row.violation), violationPart(row.violation)]);
+  }
+  if (row.notes.length) {
+    made.append(element("section", "why", element("h3", "", "Note ", source("lspcheck")),
+      notesList(row.notes)));
   }
   if (row.method === "textDocument/didChange" && row.side === EDITOR && hasText(row)) {
     made.append(folded("What this message changed", () => whatChanged(row)));

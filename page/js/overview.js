@@ -76,6 +76,7 @@ function verdictPart() {
   return element("header", `verdict verdict-${kind}`,
     element("p", "name", visibleText(session.name ?? "standard input", true)),
     element("h1", "", element("span", "word", word), " ", text),
+    session.violations.length ? soPart(session.violations[0]) : null,
     whereItIs(), damagePart(), whoLine(),
     session.exit.length === 0 ? null : element("p", "where", visibleText(endOfServer())),
     factsOfLog(),
@@ -87,10 +88,8 @@ function verdictPart() {
 }
 
 function notesPart() {
-  const notes = session.said.filter((it) => it.is === "note");
-  return notes.length === 0 ? null : element("section", "card",
-    element("h2", "", "Notes ", source("lspcheck")),
-    element("ul", "", ...notes.map((it) => element("li", "", ...noteInWords(it)))));
+  return session.notes.length === 0 ? null : element("section", "card",
+    element("h2", "", "Notes ", source("lspcheck")), notesList(session.notes));
 }
 
 function badLogPart() {

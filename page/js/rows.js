@@ -143,6 +143,9 @@ function tagsOf(row) {
   if (equalEvents.has(row.event)) {
     tags.push(element("span", "tag tag-equal", "last equal"));
   }
+  if (row.notes.length) {
+    tags.push(element("span", "tag tag-note", "note"));
+  }
   return tags;
 }
 
@@ -155,7 +158,8 @@ function labelOf(row) {
     row.version === null ? "" : `version ${row.version}`, violation,
     row.violation?.follows ? "follows" : "",
     suspectEvents.has(row.event) && !row.violation ? "suspect" : "",
-    row.cancel ? "cancelled" : "", equalEvents.has(row.event) ? "last equal" : "", row.summary,
+    row.cancel ? "cancelled" : "", equalEvents.has(row.event) ? "last equal" : "",
+    row.notes.length ? "note" : "", summaryOf(row),
   ].filter(Boolean).map(namedText).join(", ");
 }
 
@@ -170,7 +174,7 @@ function messageCell(row) {
     element("span", "what",
       ...apart([element("span", "names", ...nameOf(row)), id, file, version])),
     element("span", "says", ...apart(tagsOf(row)),
-      element("span", "summary", visibleText(row.excerpt ?? row.summary))));
+      element("span", "summary", visibleText(row.excerpt ?? summaryOf(row)))));
   made.setAttribute("aria-expanded", "false");
   made.setAttribute("aria-label", labelOf(row));
   return made;

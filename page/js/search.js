@@ -5,6 +5,7 @@ const CHOICES = new Map([
   ["server", (row) => row.side === SERVER],
   ["snapshots", (row) => row.side === SNAPSHOT],
   ["violations", (row) => row.violation !== null],
+  ["notes", (row) => row.notes.length > 0],
   ["requests without answer", (row) => row.kind === "request" && !row.partner && !row.violation],
 ]);
 // How long a search may take before the page is drawn again, and how much is shown around a word.
@@ -90,10 +91,12 @@ class Search {
   }
 
   // Whether all words are in the names of a row or in its message. If one is only in the message,
-  // the row shows the place.
+  // and not in its summary, the row shows the place.
   isFound(row, words, isPlain) {
-    const names = `${row.method ?? ""} ${row.kind} ${row.summary} ${row.uri ?? ""}`.toLowerCase();
-    const missing = words.filter((word) => !names.includes(word));
+    const names = `${row.method ?? ""} ${row.kind} ${row.uri ?? ""}`.toLowerCase();
+    const unnamed = words.filter((word) => !names.includes(word));
+    const summary = unnamed.length ? summaryOf(row).toLowerCase() : "";
+    const missing = unnamed.filter((word) => !summary.includes(word));
     if (missing.length === 0) {
       return true;
     }

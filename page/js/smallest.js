@@ -20,6 +20,8 @@ function smallestPart() {
     element("h2", "", "The smallest session that shows this"),
     element("p", "", "The editor's messages, as ", element("code", "", "clangd -lit-test"),
       " reads them. They are in what is copied as Markdown, too."),
+    session.name === null ? null : element("p", "", "A page without the words of the sources: ",
+      shownCommand(`${lspcheckCommand("redact")} | lspcheck-page --small -`)),
     folded(count(lines.filter((it) => it === "---").length + 1, "message"),
       () => element("pre", "raw", lines.join("\n"))));
 }

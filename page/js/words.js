@@ -19,6 +19,10 @@ function shownPlace(line, column) {
   return `line ${line + 1}, column ${column}`;
 }
 
+function unitsLong(number) {
+  return `${number} unit${number === 1 ? "" : "s"} long`;
+}
+
 function inUnitsOf(names) {
   return names.join(" or ").toUpperCase();
 }
@@ -112,7 +116,7 @@ const FACTS = {
   sync: ["Agreed", (it) => [`synchronisation “${it.kind}”`]],
   encoding: ["Columns", (it) => [`are counted in units of ${it.name.toUpperCase()}`]],
   change: ["Edit", shownChange],
-  length: ["That line", (it) => [`is ${it.count} units long, without its line end`]],
+  length: ["That line", (it) => [`is ${unitsLong(it.count)}, without its line end`]],
   inside: ["Inside", (it) => ["the column falls into the character ", shownText(it.text)]],
   fits: ["It would fit", (it) => [`if columns were counted in ${inUnitsOf(it.names)}`]],
   "lines-by": ["It would fit", (it) => [`if lines ended as ${LINE_KINDS[it.name] ?? it.name}`]],
@@ -170,11 +174,10 @@ const FACTS = {
   byte: ["Place", (it) => [`${it.count} bytes into the log`]],
   found: ["The line there", (it) => [shownText(it.text)]],
   usually: ["Usually", (it) => [`the fault is ${FAULTS[it.who] ?? it.who}`]],
-  so: ["So", (it) => [it.sentence]],
 };
 
 // What says nothing that is not shown elsewhere.
-const ELSEWHERE = ["event", "end", "suspect"];
+const ELSEWHERE = ["event", "end", "suspect", "so"];
 
 // An object in words: [label, nodes].
 function inWords(it) {
@@ -193,15 +196,17 @@ function noteOn(words) {
 
 // A note on a change of a didChange whose position is past the end of its line, or of the text.
 function pastEnd(it) {
-  const place = shownPlace(it.line, it.column), end = it.lines === undefined ?
-    `that line is ${it.length} units long, without its line end` : `the text has ${it.lines} lines`;
+  const lines = it.lines === 1 ? "1 line" : `${it.lines} lines`;
+  const end = it.lines !== undefined ? `the text has ${lines}` :
+    `that line is ${unitsLong(it.length)}, without its line end`;
+  const place = shownPlace(it.line, it.column);
   return [...shownEvent(it), ` changes a range at ${place}, past the end: ${end}`];
 }
 
 // A note on a change whose rangeLength is not the length of its range.
 function wrongLength(it) {
   return [...shownEvent(it),
-    ` has a rangeLength of ${it.sent}, and its range is ${it.length} units long`,
+    ` has a rangeLength of ${it.sent}, and its range is ${unitsLong(it.length)}`,
     it.fits === undefined ? "" : `; in units of ${inUnitsOf(it.fits)} it is ${it.sent} long`];
 }
 

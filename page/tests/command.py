@@ -3,6 +3,7 @@
 import contextlib
 import os
 import re
+import resource
 import shlex
 import shutil
 import signal
@@ -316,7 +317,7 @@ exit 9""")
     done = run(EXAMPLE, "--program", waits, "-o", place / "x.html")
     started = (place / "started").read_text().split("\n")[:-1]
     assert done.returncode == 0, done.stderr
-    assert sorted(started) == ["explain --all --json --quiet", "explain --json --quiet", "show --all --long --json --quiet"], started
+    assert sorted(started) == ["explain --all --notes --json --quiet", "explain --json --quiet", "show --all --long --json --quiet"], started
 
 
 def shows_progress_on_a_terminal(program, place):
@@ -361,6 +362,38 @@ def takes_little_memory(program, place):
         # What any Python script takes before it does anything.
         assert status == 0 and 1024 * (kilobytes - 20000) < 3 * len(content), (kilobytes, len(content))
         assert (place / "x.html").stat().st_size < len(content) / 3
+
+
+# What no page can do without: the commands of lspcheck, and the log compressed once.
+NEEDED = """
+import base64, subprocess, sys, zlib
+program, log = sys.argv[1:]
+for words in ("explain", "explain --all --notes", "show --all --long"):
+    subprocess.run([program, *words.split(), "--json", log], stdout=subprocess.PIPE)
+with open(log, "rb") as file:
+    while block := file.read(1_000_000):
+        base64.b64encode(zlib.compress(block, 3))
+"""
+
+
+def processor_time(*words):
+    """The seconds of processor time of a command and what it starts, the least of three runs."""
+    found = []
+    for _ in range(3):
+        before = resource.getrusage(resource.RUSAGE_CHILDREN)
+        subprocess.run(list(map(str, words)), stdout=subprocess.DEVNULL, timeout=SECONDS, check=True)
+        after = resource.getrusage(resource.RUSAGE_CHILDREN)
+        found.append(after.ru_utime - before.ru_utime + after.ru_stime - before.ru_stime)
+    return min(found)
+
+
+def takes_little_time(program, place):
+    """Less than four times what no page can do without."""
+    log = place / "x.log"
+    log.write_bytes(logs.long(2000 if programs.is_checked(program) else 20000))
+    needed = processor_time(sys.executable, "-c", NEEDED, program, log)
+    took = processor_time(sys.executable, COMMAND, log, "--program", program)
+    assert took < 4 * needed, (took, needed)
 
 
 def has_a_manual_page(program, place):
@@ -409,6 +442,7 @@ TESTS = [
     reads_a_log_as_often_as_needed,
     shows_progress_on_a_terminal,
     takes_little_memory,
+    takes_little_time,
     has_a_manual_page,
     finds_the_program,
 ]

@@ -252,6 +252,7 @@ def has_the_smallest_session(page, log, program):
     wanted = smallest_of(program, log).removesuffix("\n")
     assert wanted.count("\n---\n") == 3, wanted
     assert f"\n```\n{wanted}\n```\n" in copied_markdown(page), wanted
+    assert page.text(".smallest .command") == f"lspcheck redact '{log.name}' | lspcheck-page --small -"
     page.run("document.querySelector('.smallest .folded').open = true")
     page.wait("return document.querySelector('.smallest pre')")
     assert page.text(".smallest summary") == "4 messages", page.text(".smallest summary")
@@ -373,9 +374,9 @@ def gives_away_little(page, program, log):
     index, contents = logs.data_of(text)
     named = {int(it) for it in re.findall(r"event (\d+)", output(program, "explain", log).decode())}
     assert {row["event"] for row in index["rows"]} == named | {1, 2}, (named, len(index["rows"]))
-    data = " ".join(logs.blocks_of(text).values())
+    data = b" ".join(logs.blocks_of(text).values()).decode()
     assert "value_1;" not in data and "value_39;" not in data and "value_19;" in data, "texts"
-    assert not any(it and "value_1;" in it for it in contents) and "value_1;" in whole
+    assert not any(it and b"value_1;" in it for it in contents) and "value_1;" in whole
     page.open()
     texts = [output(program, "explain", it, log).decode() for it in ("--by-messages", "--in-editor")]
     shown = page.run("return [...document.querySelectorAll('.first .pair.differs .line-number')].map((it) => it.innerText)")

@@ -252,6 +252,43 @@ def noted():
     ])
 
 
+def said():
+    """Messages of each kind of which a page says something of its own, and some of odd forms."""
+    start, end = {"line": 0, "character": 2}, {"line": 4, "character": 0}
+    one, other = {"range": {"start": start, "end": end}, "text": "a\n\"é\N{GRINNING FACE}\""}, {"range": {"start": start, "end": start}, "text": ""}
+    uri = "file:///said.c"
+    progress = {"kind": "report", "title": "t", "message": "m  n", "percentage": 7}
+    editor = [
+        opened(uri, 1, "x\N{GRINNING FACE}" * 700),
+        opened("file:///other.c", 1, "x"),
+        changed(uri, 2, one), changed(uri, 3, one, other), changed(uri, 4), changed(uri, 5, {"text": "\N{GRINNING FACE}" * 90}),
+        changed(uri, 6, {"range": {"start": start, "end": start}, "text": "\N{GRINNING FACE}" * 50}),
+        saved(uri, "x"), notification("textDocument/didSave", {"textDocument": {"uri": uri}}),
+        notification("$/cancelRequest", {"id": "x"}), notification("$/cancelRequest", {"id": None}),
+        request(2, "workspace/executeCommand", {"command": "do \u2028 this", "arguments": [1]}),
+        request(3, "textDocument/rename", {"textDocument": {"uri": uri}, "position": end, "newName": "new\tname"}),
+        request(4, "textDocument/hover", {"textDocument": {"uri": uri}, "position": {"line": 2.5, "character": None}}),
+        request(5, "textDocument/formatting", {"textDocument": {"uri": uri}, "options": {"tabSize": 4}, "b": 1}),
+        request(6, "textDocument/rangeFormatting", {"range": {"start": start, "end": start}}),
+        request(7, "textDocument/completion", [1, {"a": [2, None]}]), request(8, "other", {}),
+    ]
+    server = [
+        notification("textDocument/publishDiagnostics", {"uri": uri, "diagnostics": [{"message": "bad"}, {}]}),
+        notification("textDocument/publishDiagnostics", {"uri": uri, "diagnostics": []}),
+        *(notification(f"window/{name}Message", {"type": kind, "message": "said"}) for kind, name in enumerate(("show", "log"))),
+        notification("window/logMessage", {"type": "x", "message": ["a", {"b": 1}, 2.5, None, True]}),
+        notification("$/progress", {"token": 7, "value": progress}), notification("$/progress", {"token": "t", "value": {}}),
+        request(1, "client/registerCapability", {"registrations": [{"method": "a"}, {}]}),
+        request(2, "client/unregisterCapability", {"unregisterations": [{"method": "a"}] * 30}),
+        request(3, "workspace/configuration", {"items": [{"section": "s"}, {"section": None}]}),
+        result(2, [1, 2]), result(3, {"items": [1], "isIncomplete": True}), result(4, {"contents": {"value": "v"}}),
+        result(5, {"contents": ["w", {"x": 1}]}), result(6, "a " * 400), result(7, {"b": 1, "a": {}}),
+        {"jsonrpc": "2.0", "id": 8, "error": {"code": -32601, "message": "no\n such"}},
+        notification("window/logMessage", {"type": 4, "message": {"1": 99999999999999999999, "x": [99999999999999999999]}}),
+    ]
+    return handshake() + b"".join([*(frame(b"E", it) for it in editor), *(frame(b"S", it) for it in server)])
+
+
 def evil():
     """Small logs that attack whoever shows them, by name: in every place that a session has."""
     mark, bytes_of = "\u202e\u2066\x1b[31m", lambda message: json.dumps(message, ensure_ascii=False).encode("utf-8", "surrogatepass")
@@ -317,14 +354,22 @@ def many(events):
 
 
 def blocks_of(page):
-    """The JSON of each block of data of a page."""
-    return {name: zlib.decompress(base64.b64decode(text)).decode() for name, text in BLOCK.findall(page)}
+    """The bytes of each block of data of a page."""
+    return {name: zlib.decompress(base64.b64decode(text)) for name, text in BLOCK.findall(page)}
 
 
 def data_of(page):
-    """The index of a page, with its rows as objects, and the contents of its events."""
-    blocks = {name: json.loads(text) for name, text in blocks_of(page).items()}
-    contents = [it for number in range(len(blocks) - 1) for it in blocks[f"contents-{number}"]]
-    index = blocks["session"]
+    """The index of a page, with its rows as objects, and the contents of its events, None for those that
+    were left out."""
+    blocks = blocks_of(page)
+    index = json.loads(blocks["session"])
+    assert len(blocks) == index["blocks"] + 1
     index["rows"] = [dict(zip(index["rows"], row)) for row in zip(*index["rows"].values())]
+    contents, filled = [], {}
+    for row in index["rows"]:
+        name, size = f"contents-{row['block']}", row["bytes"]
+        start = filled.get(name, 0)
+        contents.append(None if row["block"] < 0 else blocks[name][start : start + size])
+        filled[name] = start + (size if row["block"] >= 0 else 0)
+    assert all(filled[name] == len(block) for name, block in blocks.items() if name != "session")
     return index, contents

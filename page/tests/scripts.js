@@ -6,16 +6,10 @@ const vm = require("vm");
 
 const FOLDER = path.join(__dirname, "..", "js");
 
-// What a browser has to decompress a block of data; the blocks that a test gives are not compressed.
-const BROWSER = {
-  atob: (text) => text,
-  Uint8Array,
-  Blob: class { constructor([bytes]) { this.bytes = bytes; } stream() { return this; } pipeThrough() { return this.bytes; } },
-  DecompressionStream: class {},
-  Response: class { constructor(bytes) { this.bytes = bytes; } text() { return Buffer.from(this.bytes).toString(); } },
-};
+const BROWSER = { atob, Blob, DecompressionStream, Response, TextDecoder, Uint8Array };
 
-// The values of these names after the scripts have run; `blocks` are the data of a page, by name.
+// The values of these names after the scripts have run; `blocks` are the data of a page as they are
+// in it, by name.
 exports.load = (scripts, names, blocks = {}) => {
   const context = { ...BROWSER, document: { getElementById: (id) => ({ textContent: blocks[id] }) } };
   const code = scripts.map((name) => fs.readFileSync(path.join(FOLDER, name), "utf8")).join("\n");

@@ -1,4 +1,4 @@
-"""The texts that a page makes from the messages, and its differences, run by node."""
+"""What a page works out from the messages: texts, differences, summaries. Its scripts are run by node."""
 
 import json
 import shutil
@@ -8,8 +8,10 @@ from pathlib import Path
 import logs
 from data import EXAMPLES, output, page_of, smallest_of, written
 from processes import SECONDS
+from summaries import count, summary
 
 HERE = Path(__file__).resolve().parent
+SNAPSHOT = 2
 SCHEMA = HERE.parent.parent / "docs/report.schema.json"
 
 
@@ -22,12 +24,33 @@ def node(script, given):
     return json.loads(done.stdout)
 
 
+def blocks_of(page):
+    """The data of a page, as they are in it."""
+    return dict(logs.BLOCK.findall(page))
+
+
+def contents_are_those_of_lspcheck(program, place):
+    """Of each event: the content, in which a byte that is not UTF-8 is a lone surrogate, and what the
+    page says about it in one line, worked out a second time."""
+    found = {**logs.telling(), **logs.evil(), "hostile": logs.hostile(), "said": logs.said()}
+    for log in [*EXAMPLES, *(written(place, name, content) for name, content in found.items())]:
+        for row in node("contents.js", blocks_of(page_of(program, log))):
+            content = output(program, "event", str(row["event"]), log)
+            assert row["content"] == content.decode("utf-8", "surrogateescape"), (log, row)
+            try:
+                wanted = summary(json.loads(content), row["method"])
+            except (ValueError, RecursionError):
+                wanted = ""
+            wanted = count(len(content), "byte") if row["side"] == SNAPSHOT else wanted
+            assert row["summary"] == wanted, (log, row, wanted)
+
+
 def texts_are_those_of_lspcheck(program, place):
     """After each message of the editor, for each document: the text of `lspcheck text --all`."""
     made = [written(place, f"{name}.log", logs.edited(name, seed)) for seed, name in enumerate(logs.UNITS)]
     compared = 0
     for log in [*EXAMPLES, *made]:
-        for at in node("texts.js", logs.blocks_of(page_of(program, log))):
+        for at in node("texts.js", blocks_of(page_of(program, log))):
             words = ["text", "--all", str(at["number"]), at["uri"], log]
             wanted = output(program, *words).decode()
             assert (at["text"] or "") == wanted, f"{log.name}: {words[2:4]}"
@@ -38,8 +61,8 @@ def texts_are_those_of_lspcheck(program, place):
 def texts_after_a_gap(program, place):
     """A cut page makes the same texts from its checkpoints, or says that it cannot."""
     log = written(place, "long.log", logs.long(1000, difference=501, lines=100))
-    whole = {it["event"]: it["text"] for it in node("texts.js", logs.blocks_of(page_of(program, log)))}
-    cut = node("texts.js", logs.blocks_of(page_of(program, log, "--most-events", "150")))
+    whole = {it["event"]: it["text"] for it in node("texts.js", blocks_of(page_of(program, log)))}
+    cut = node("texts.js", blocks_of(page_of(program, log, "--most-events", "150")))
     known = [it for it in cut if it["text"] is not None]
     assert len(known) > 30 and all(it["text"] == whole[it["event"]] for it in known)
 
@@ -57,7 +80,7 @@ def smallest_sessions_mean_the_same(program, place):
     for name, log in logs.evil().items():
         log = written(place, f"{name}.log", log)
         wanted = smallest_of(program, log).split("\n")[:-1]
-        found = node("smallest.js", logs.blocks_of(page_of(program, log, "--small")))
+        found = node("smallest.js", blocks_of(page_of(program, log, "--small")))
         assert found["odd"] == [], (name, found)
         assert len(found["lines"]) == len(wanted), (name, found)
         for line, own in zip(found["lines"], wanted):
@@ -85,6 +108,7 @@ def has_words_for_each_form(program, place):
 
 TESTS = [
     has_words_for_each_form,
+    contents_are_those_of_lspcheck,
     texts_are_those_of_lspcheck,
     texts_after_a_gap,
     smallest_sessions_mean_the_same,

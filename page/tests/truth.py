@@ -10,6 +10,7 @@ import subprocess
 import logs
 from data import EXAMPLES, NO, lines_of, output, written
 from expected import READ, TEXTS, Expected, later, version_label
+from window import WIDTHS
 
 ROWS = READ + """
 return [...document.querySelectorAll("#lanes > .row")].filter((it) => it.querySelector(".say")).map((row) => {
@@ -50,10 +51,10 @@ def shows_each_event(page, program, log):
     assert [int(it["event"]) for it in closed] == sorted(wanted.events), [it["event"] for it in closed]
     assert [it["event"] for it in opened] == [it["event"] for it in closed]
     assert [it["top"] for it in closed] == sorted(it["top"] for it in closed)
-    suspects = suspects_of(program, log)
+    suspects, noted = suspects_of(program, log), set(events_of_notes(program, log))
     for row in closed:
         event = wanted.events[int(row["event"])]
-        check_row(row, event, suspects)
+        check_row(row, event, suspects, noted)
         assert json.dumps(event.get("id"), ensure_ascii=False) in (row["id"] or "#null")[1:]
     for row in opened:
         check_details(row, wanted.events[int(row["event"])], wanted)
@@ -65,7 +66,21 @@ def suspects_of(program, log):
     return set(map(int, re.findall(r"^suspect \S+ event (\d+)", found, re.M)))
 
 
-def check_row(row, event, suspects):
+def notes_of(program, log):
+    """The lines of all notes, also of those after a violation."""
+    return [it for it in lines_of(program, "explain", "--all", "--notes", log) if it.startswith("note ")]
+
+
+def events_of_notes(program, log):
+    """For each event, its notes."""
+    found = {}
+    for line in notes_of(program, log):
+        if event := re.search(r" event (\d+) \w+ \d+$", line):
+            found.setdefault(int(event[1]), []).append(line)
+    return found
+
+
+def check_row(row, event, suspects, noted):
     method, kind = event.get("method"), event["kind"]
     if kind in ("result", "error"):
         asked = event.get("request", {}).get("method")
@@ -85,9 +100,11 @@ def check_row(row, event, suspects):
         tags = [f"{event['rule']} {event['text']}"]
     elif event["event"] in suspects:
         tags = ["suspect"]
-    assert [it for it in row["tags"] if it != "last equal"] == tags + ["cancelled"] * ("cancel" in event), (row, event)
+    tags += ["cancelled"] * ("cancel" in event) + ["note"] * (event["event"] in noted)
+    assert [it for it in row["tags"] if it != "last equal"] == tags, (row, event)
     said = [f"event {event['event']}", "snapshot" if kind == "snapshot" else f"{event['side']}, {kind}"]
     said += [f"rule {event['rule']}, {event['text']}"] if "rule" in event else []
+    said += ["note"] if event["event"] in noted else []
     assert all(it in row["label"] for it in [*said, method or ""]), (row["label"], said)
     if "rule" not in event:
         said = [f"version {event['version']}" if "version" in event else "", f"id {json.dumps(event['id'])}" if "id" in event else ""]
@@ -201,6 +218,8 @@ def shows_the_head(page, program, log):
         assert page.text("h1").endswith(wanted.check[1]), head
         assert wanted.check[0].split()[1] in page.text("h1"), head
     plural = lambda number, noun: f"{number:,} {noun}{'' if number == 1 else 's'}"
+    so = [json.loads(it[3:]) for it in wanted.explain if it.startswith("so ")]
+    assert page.run(READ + "return plain(document.querySelector('h1 + .so'))") == (f"{so[0]} lspcheck" if so else None), (head, so)
     assert plural(sum(counts), "event") in head, head
     assert f"{plural(counts[0], 'message')} of the editor and {counts[1]:,} of the server" in head, head
     assert f"· {plural(counts[2], 'snapshot')} ·" in head, head
@@ -259,6 +278,10 @@ def code_words(values):
     return f"by the messages {sent}, in the other text {other}"
 
 
+def units_long(number):
+    return f"{number} unit{'' if number == '1' else 's'} long"
+
+
 def ends_words(values):
     if values[0] == "converted":
         sent, other = ({"\n": "LF", "\r\n": "CR LF", "\r": "CR"}[it] for it in values[1:])
@@ -282,7 +305,7 @@ SENTENCES = {
     "changes": ("Changes", lambda it: f"{it[0]} in this message"),
     "encoding": ("Columns", lambda it: f"are counted in units of {it[0].upper()}"),
     "change": ("Edit", change_words),
-    "length": ("That line", lambda it: f"is {it[0]} units long, without its line end"),
+    "length": ("That line", lambda it: f"is {units_long(it[0])}, without its line end"),
     "inside": ("Inside", lambda it: f"the column falls into the character {it[0]}"),
     "fits": ("It would fit", lambda it: f"if columns were counted in {' or '.join(it).upper()}"),
     "lines-by": ("It would fit", lambda it: f"if lines ended as {LINE_KINDS[it[0]]}"),
@@ -313,13 +336,14 @@ def note_words(name, values):
     if name in MISUSES:
         return f"{values[0]} {MISUSES[name]}: {event_words(values[1:])}"
     if name == "past-end":
-        what = "the text has {} lines" if values[2] == "lines" else "that line is {} units long, without its line end"
-        return f"{event_words(values[4:])} changes a range at {place(values)}, past the end: {what.format(values[3])}"
+        lines = "1 line" if values[3] == "1" else f"{values[3]} lines"
+        what = f"the text has {lines}" if values[2] == "lines" else f"that line is {units_long(values[3])}, without its line end"
+        return f"{event_words(values[4:])} changes a range at {place(values)}, past the end: {what}"
     if name == "range-length":
         here = values.index("event")
         fits = [it.upper() for it in values[4:here]]
         more = f"; in units of {' or '.join(fits)} it is {values[0]} long" if fits else ""
-        return f"{event_words(values[here:])} has a rangeLength of {values[0]}, and its range is {values[2]} units long{more}"
+        return f"{event_words(values[here:])} has a rangeLength of {values[0]}, and its range is {units_long(values[2])}{more}"
     if name == "refused":
         what = f"A request about {values[1]}, which is open, was refused"
         return f"{what}: {event_words(values[2:])} is the error {values[0]} (InvalidParams)"
@@ -348,8 +372,12 @@ def words_of(line):
 
 
 def says_each_note(page, program, log):
-    """The notes of `explain`, in its order, as sentences."""
-    notes = [words_of(it)[1] for it in lines_of(program, "explain", log) if it.startswith("note ")]
+    """The notes of `explain --all --notes`, in its order, as sentences, and each at its event."""
+    notes = [words_of(it)[1] for it in notes_of(program, log)]
+    for event, lines in events_of_notes(program, log).items():
+        page.open(link=f"#event-{event}")
+        shown = page.run(READ + "return [...document.querySelectorAll('.selected .details .notes li')].map(plain)")
+        assert shown == [note_words(name, values) for name, *values in (words_of(it)[1] for it in lines)], (shown, lines)
     page.open()
     shown = page.run(READ + "return [...document.querySelectorAll('#overview .card')].filter((it) => plain(it).startsWith('Notes')).flatMap((it) => [...it.querySelectorAll('li')].map(plain))")
     assert shown == [note_words(name, values) for name, *values in notes], (shown, notes)
@@ -381,6 +409,9 @@ def explains_each_violation(page, program, log):
                 assert said is None or [label, said] in facts, (line, said, facts)
             elif word in ("by-messages", "in-editor", "saved", "begins", "similar", "member"):
                 assert any(values[0] in text for _, text in facts), (line, facts)
+        so = [words_of(it)[1][0] for it in lines if it.startswith("so ")]
+        first = page.run(READ + "return plain(document.querySelector('.selected .details > .so'))")
+        assert first == (f"{so[0]} lspcheck" if so else None), (so, first)
         about = page.run(READ + "return [...document.querySelectorAll('.selected .about-rule dd')].map(plain)")
         assert about == rule_words(rule), (about, rule_words(rule))
         raw = page.run("const it = document.querySelector('.selected .why .folded'); it.open = true; return 0")
@@ -439,9 +470,11 @@ def shows_both_texts(page, program, log):
     """The text by the messages on the left, the editor's own on the right."""
     texts = [output(program, "explain", it, log).decode() for it in ("--by-messages", "--in-editor")]
     assert texts[0] != texts[1]
-    page.open()
-    top = page.run("return document.querySelector('.first .pair.differs, .first .pair').getBoundingClientRect().top")
-    assert top < 400, top
+    for width in WIDTHS:
+        page.open(width)
+        tops = page.run("return ['.first .pair', '.first .pair.differs'].map((it) => "
+                        "document.querySelector(it).getBoundingClientRect().top)")
+        assert tops[0] < 400 and tops[1] < 450, (width, tops)
     assert page.texts(".first .heads > div")[0] == "By the messages"
     assert page.texts(".first .heads > div")[1] in ("In the editor", "Saved by the editor")
     shown = [pair for pair in page.all(".first .pair.equal")]

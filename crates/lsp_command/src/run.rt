@@ -1,5 +1,7 @@
 //! Does what the words ask for.
 ghost use Rattle.std.specs.Prelude.{◌≡◌, [], None, Err, OnOk, IsSome};
+ghost use Rattle.lsp_judge.specs.Checked.{Checked};
+ghost use Rattle.lsp_judge.specs.ShownLog.{Showed};
 ghost use Rattle.lsp_verdict.specs.Runs.{ports};
 ghost use Rattle.lsp_verdict.specs.declared.outcome.RunFault.TheVariants as faults;
 ghost use Rattle.lsp_command.specs.Ports.{input_error, late_error, output_error, unwritten};
@@ -36,11 +38,8 @@ pub fn run_task<R: Source, W: Sink>(
         result }
 {
     match task {
-        Task::Check(Completeness::Ignored, Report::Verdict, Form::Lines) => {
-            of_run(run_check(alloc, source, sink, limits))
-        }
-        Task::Check(Completeness::Required, Report::Verdict, Form::Lines) => {
-            of_run(run_check_complete(alloc, source, sink, limits))
+        Task::Check(completeness, Report::Verdict, Form::Lines) => {
+            of_run(check(alloc, source, sink, limits, completeness))
         }
         Task::Check(completeness, Report::Verdict, Form::Json) => {
             of_run(run_check_json(alloc, source, sink, limits, completeness))
@@ -69,11 +68,8 @@ pub fn run_task<R: Source, W: Sink>(
             of_run(ended)
         }
         Task::Compared(which) => of_run(run_compared(alloc, source, sink, limits, which)),
-        Task::Show(Lines::Short, Extent::First, Form::Lines) => {
-            of_run(run_show(alloc, source, sink, limits))
-        }
-        Task::Show(Lines::Long, Extent::First, Form::Lines) => {
-            of_run(run_show_long(alloc, source, sink, limits))
+        Task::Show(lines, Extent::First, Form::Lines) => {
+            of_run(show(alloc, source, sink, limits, lines))
         }
         Task::Show(lines, Extent::First, Form::Json) => {
             of_run(run_show_json(alloc, source, sink, limits, lines))
@@ -96,6 +92,42 @@ pub fn run_task<R: Source, W: Sink>(
         Task::Rewrite(Rewrite::Upgrade) => of_run(run_upgrade(alloc, source, sink, limits)),
         Task::Rewrite(Rewrite::Redact) => of_run(run_redact(alloc, source, sink, limits)),
         Task::Frames(mode) => of_run(run_frames(alloc, source, sink, limits, mode)),
+    }
+}
+
+/// Judges a session, which must be complete or not.
+fn check<R: Source, W: Sink>(
+    alloc: Global,
+    source: &mut R,
+    sink: &mut W,
+    limits: Limits,
+    completeness: Completeness,
+) -> Result<Outcome, RunFault>
+    ensures checked { Checked completeness limits
+        (ports (R.told source.old) (R.told source.new) (W.told sink.old) (W.told sink.new))
+        result }
+{
+    match completeness {
+        Completeness::Ignored => run_check(alloc, source, sink, limits),
+        Completeness::Required => run_check_complete(alloc, source, sink, limits),
+    }
+}
+
+/// Lists the events of a session up to its verdict, by short or long lines.
+fn show<R: Source, W: Sink>(
+    alloc: Global,
+    source: &mut R,
+    sink: &mut W,
+    limits: Limits,
+    lines: Lines,
+) -> Result<Outcome, RunFault>
+    ensures showed { Showed lines limits
+        (ports (R.told source.old) (R.told source.new) (W.told sink.old) (W.told sink.new))
+        result }
+{
+    match lines {
+        Lines::Short => run_show(alloc, source, sink, limits),
+        Lines::Long => run_show_long(alloc, source, sink, limits),
     }
 }
 

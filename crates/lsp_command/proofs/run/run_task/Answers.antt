@@ -1,91 +1,79 @@
 use Rattle.lsp_command.proofs.Endings.{event_ended, passed, run_ended}
 use Rattle.lsp_command.proofs.run.run_task.Goals as goal
 
-pub returns-in-Check-Ignored-Verdict-Lines : goal.returns-in-Check-Ignored-Verdict-Lines
-returns-in-Check-Ignored-Verdict-Lines g c =
-    let arm = c.in-Check-Ignored-Verdict-Lines in
-    let first = rw arm.is at arm.field-0-is in
+pub returns-in-Check-default-Verdict-Lines : goal.returns-in-Check-default-Verdict-Lines
+returns-in-Check-default-Verdict-Lines g c =
+    let arm = c.in-Check-default-Verdict-Lines in
     let second = rw arm.is at arm.field-1-is in
     let third = rw arm.is at arm.field-2-is in
-    let is = c.run_check.ensures.checked in
+    let is = c.check.ensures.checked in
     let of = c.of_run.ensures in
-    rw (arm.is, first, second, third)
+    rw (arm.is, second, third)
     (record { ran = run_ended _ _ _ _ _ of is.writes.counts (_, of, is) })
 
-pub returns-in-Check-Required-Verdict-Lines : goal.returns-in-Check-Required-Verdict-Lines
-returns-in-Check-Required-Verdict-Lines g c =
-    let arm = c.in-Check-Required-Verdict-Lines in
-    let first = rw arm.is at arm.field-0-is in
-    let second = rw arm.is at arm.field-1-is in
-    let third = rw arm.is at arm.field-2-is in
-    let is = c.run_check_complete.ensures.checked in
-    let of = c.of_run-in-Check-Required-Verdict-Lines.ensures in
-    rw (arm.is, first, second, third)
-    (record { ran = run_ended _ _ _ _ _ of is.writes.counts (_, of, is) })
-
-pub returns-in-Check-Verdict-Json : goal.returns-in-Check-Verdict-Json
-returns-in-Check-Verdict-Json g c =
-    let arm = c.in-Check-Verdict-Json in
+pub returns-in-Check-default-Verdict-Json : goal.returns-in-Check-default-Verdict-Json
+returns-in-Check-default-Verdict-Json g c =
+    let arm = c.in-Check-default-Verdict-Json in
     let second = rw arm.is at arm.field-1-is in
     let third = rw arm.is at arm.field-2-is in
     let is = c.run_check_json.ensures.json in
-    let of = c.of_run-in-Check-Verdict-Json.ensures in
+    let of = c.of_run-in-Check-default-Verdict-Json.ensures in
     rw (arm.is, second, third)
     (record { ran = passed _ _ _ _ _ _ of is (_, of, is) })
 
-pub returns-in-Check-Line-Lines : goal.returns-in-Check-Line-Lines
-returns-in-Check-Line-Lines g c =
-    let arm = c.in-Check-Line-Lines in
+pub returns-in-Check-default-Line-Lines : goal.returns-in-Check-default-Line-Lines
+returns-in-Check-default-Line-Lines g c =
+    let arm = c.in-Check-default-Line-Lines in
     let second = rw arm.is at arm.field-1-is in
     let third = rw arm.is at arm.field-2-is in
     let is = c.run_check_line-ended.ensures.checked in
-    let of = c.of_run-in-Check-Line-Lines.ensures in
+    let of = c.of_run-in-Check-default-Line-Lines.ensures in
     rw (arm.is, second, third)
     (record { ran = run_ended _ _ _ _ _ of is.counts (_, of, is) })
 
-pub returns-in-Check-Line-Json : goal.returns-in-Check-Line-Json
-returns-in-Check-Line-Json g c =
-    let arm = c.in-Check-Line-Json in
+pub returns-in-Check-default-Line-Json : goal.returns-in-Check-default-Line-Json
+returns-in-Check-default-Line-Json g c =
+    let arm = c.in-Check-default-Line-Json in
     let second = rw arm.is at arm.field-1-is in
     let third = rw arm.is at arm.field-2-is in
     let is = c.run_check_object-ended.ensures.checked in
-    let of = c.of_run-in-Check-Line-Json.ensures in
+    let of = c.of_run-in-Check-default-Line-Json.ensures in
     rw (arm.is, second, third)
     (record { ran = run_ended _ _ _ _ _ of is.counts (_, of, is) })
 
-pub returns-in-Check-Offences : goal.returns-in-Check-Offences
-returns-in-Check-Offences g c =
-    let arm = c.in-Check-Offences in
+pub returns-in-Check-default-Offences-default : goal.returns-in-Check-default-Offences-default
+returns-in-Check-default-Offences-default g c =
+    let arm = c.in-Check-default-Offences-default in
     let second = rw arm.is at arm.field-1-is in
     let is = c.run_survey-ended.ensures.passes in
-    let of = c.of_run-in-Check-Offences.ensures in
+    let of = c.of_run-in-Check-default-Offences-default.ensures in
     rw (arm.is, second)
     (record { ran = passed _ _ _ _ _ _ of is (_, of, is) })
 
-pub returns-in-Explain-Verdict : goal.returns-in-Explain-Verdict
-returns-in-Explain-Verdict g c =
-    let arm = c.in-Explain-Verdict in
+pub returns-in-Explain-default-Verdict-default : goal.returns-in-Explain-default-Verdict-default
+returns-in-Explain-default-Verdict-default g c =
+    let arm = c.in-Explain-default-Verdict-default in
     let second = rw arm.is at arm.field-1-is in
     let is = c.run_explain.ensures.passes in
-    let of = c.of_run-in-Explain-Verdict.ensures in
+    let of = c.of_run-in-Explain-default-Verdict-default.ensures in
     rw (arm.is, second)
     (record { ran = passed _ _ _ _ _ _ of is (_, of, is) })
 
-pub returns-in-Explain-All : goal.returns-in-Explain-All
-returns-in-Explain-All g c =
-    let arm = c.in-Explain-All in
+pub returns-in-Explain-default-All-default : goal.returns-in-Explain-default-All-default
+returns-in-Explain-default-All-default g c =
+    let arm = c.in-Explain-default-All-default in
     let second = rw arm.is at arm.field-1-is in
     let is = c.run_explain_all-ended.ensures.passes in
-    let of = c.of_run-in-Explain-All.ensures in
+    let of = c.of_run-in-Explain-default-All-default.ensures in
     rw (arm.is, second)
     (record { ran = passed _ _ _ _ _ _ of is (_, of, is) })
 
-pub returns-in-Explain-AllWithNotes : goal.returns-in-Explain-AllWithNotes
-returns-in-Explain-AllWithNotes g c =
-    let arm = c.in-Explain-AllWithNotes in
+pub returns-in-Explain-default-AllWithNotes-default : goal.returns-in-Explain-default-AllWithNotes-default
+returns-in-Explain-default-AllWithNotes-default g c =
+    let arm = c.in-Explain-default-AllWithNotes-default in
     let second = rw arm.is at arm.field-1-is in
     let is = c.run_explain_noted-ended.ensures.passes in
-    let of = c.of_run-in-Explain-AllWithNotes.ensures in
+    let of = c.of_run-in-Explain-default-AllWithNotes-default.ensures in
     rw (arm.is, second)
     (record { ran = passed _ _ _ _ _ _ of is (_, of, is) })
 
@@ -95,62 +83,50 @@ returns-in-Compared g c =
     let of = c.of_run-in-Compared.ensures in
     rw c.in-Compared.is (record { ran = passed _ _ _ _ _ _ of is (_, of, is) })
 
-pub returns-in-Show-Short-First-Lines : goal.returns-in-Show-Short-First-Lines
-returns-in-Show-Short-First-Lines g c =
-    let arm = c.in-Show-Short-First-Lines in
-    let first = rw arm.is at arm.field-0-is in
+pub returns-in-Show-default-First-Lines : goal.returns-in-Show-default-First-Lines
+returns-in-Show-default-First-Lines g c =
+    let arm = c.in-Show-default-First-Lines in
     let second = rw arm.is at arm.field-1-is in
     let third = rw arm.is at arm.field-2-is in
-    let is = c.run_show.ensures.showed in
-    let of = c.of_run-in-Show-Short-First-Lines.ensures in
-    rw (arm.is, first, second, third)
+    let is = c.show.ensures.showed in
+    let of = c.of_run-in-Show-default-First-Lines.ensures in
+    rw (arm.is, second, third)
     (record { ran = run_ended _ _ _ _ _ of is.counts (_, of, is) })
 
-pub returns-in-Show-Long-First-Lines : goal.returns-in-Show-Long-First-Lines
-returns-in-Show-Long-First-Lines g c =
-    let arm = c.in-Show-Long-First-Lines in
-    let first = rw arm.is at arm.field-0-is in
-    let second = rw arm.is at arm.field-1-is in
-    let third = rw arm.is at arm.field-2-is in
-    let is = c.run_show_long.ensures.showed in
-    let of = c.of_run-in-Show-Long-First-Lines.ensures in
-    rw (arm.is, first, second, third)
-    (record { ran = run_ended _ _ _ _ _ of is.counts (_, of, is) })
-
-pub returns-in-Show-First-Json : goal.returns-in-Show-First-Json
-returns-in-Show-First-Json g c =
-    let arm = c.in-Show-First-Json in
+pub returns-in-Show-default-First-Json : goal.returns-in-Show-default-First-Json
+returns-in-Show-default-First-Json g c =
+    let arm = c.in-Show-default-First-Json in
     let second = rw arm.is at arm.field-1-is in
     let third = rw arm.is at arm.field-2-is in
     let is = c.run_show_json.ensures.json in
-    let of = c.of_run-in-Show-First-Json.ensures in
+    let of = c.of_run-in-Show-default-First-Json.ensures in
     rw (arm.is, second, third)
     (record { ran = passed _ _ _ _ _ _ of is (_, of, is) })
 
-pub returns-in-Show-All : goal.returns-in-Show-All
-returns-in-Show-All g c =
-    let arm = c.in-Show-All in
+pub returns-in-Show-default-All-default : goal.returns-in-Show-default-All-default
+returns-in-Show-default-All-default g c =
+    let arm = c.in-Show-default-All-default in
     let second = rw arm.is at arm.field-1-is in
     let is = c.run_show_all.ensures.passes in
-    let of = c.of_run-in-Show-All.ensures in
+    let of = c.of_run-in-Show-default-All-default.ensures in
     rw (arm.is, second)
     (record { ran = passed _ _ _ _ _ _ of is (_, of, is) })
 
-pub returns-in-Text-First : goal.returns-in-Text-First
-returns-in-Text-First g c =
-    let arm = c.in-Text-First in
+pub returns-in-Text-default-default-First : goal.returns-in-Text-default-default-First
+returns-in-Text-default-default-First g c =
+    let arm = c.in-Text-default-default-First in
     let extent = rw arm.is at arm.extent-is in
     let is = rw c.get.ensures.value at c.run_text.ensures.text in
-    let of = c.of_run-in-Text-First.ensures in
+    let of = c.of_run-in-Text-default-default-First.ensures in
     rw (arm.is, extent)
     (record { ran = run_ended _ _ _ _ _ of is.counts (_, of, is) })
 
-pub returns-in-Text-All : goal.returns-in-Text-All
-returns-in-Text-All g c =
-    let arm = c.in-Text-All in
+pub returns-in-Text-default-default-All : goal.returns-in-Text-default-default-All
+returns-in-Text-default-default-All g c =
+    let arm = c.in-Text-default-default-All in
     let extent = rw arm.is at arm.extent-is in
-    let is = rw c.get-in-Text-All.ensures.value at c.run_text_all.ensures.passes in
-    let of = c.of_run-in-Text-All.ensures in
+    let is = rw c.get-in-Text-default-default-All.ensures.value at c.run_text_all.ensures.passes in
+    let of = c.of_run-in-Text-default-default-All.ensures in
     rw (arm.is, extent)
     (record { ran = passed _ _ _ _ _ _ of is (_, of, is) })
 

@@ -1,4 +1,4 @@
-"""What a message says, in one line."""
+"""What a message says, in one line: what the scripts of a page must work out, in another language."""
 
 import json
 
@@ -33,11 +33,12 @@ def plain(value, most=LONGEST):
         return cut(value, most)
     if value is None or isinstance(value, (bool, int, float)):
         return json.dumps(value)
-    return cut(", ".join(map(str, list(value)[:20])), most)
+    words = [it if isinstance(it, str) else json.dumps(it, ensure_ascii=False, separators=(",", ":")) for it in value]
+    return cut(", ".join(words[:20]), most)
 
 
 def count(number, noun):
-    return f"{number} {noun}" if number == 1 else f"{number} {noun}s"
+    return f"{number:,} {noun}" if number == 1 else f"{number:,} {noun}s"
 
 
 def joined(*parts):
@@ -129,7 +130,7 @@ def progress(params):
     value = at(params, "value")
     words = [at(value, name) for name in ("kind", "title", "message")]
     percent = at(value, "percentage")
-    said = joined(*(plain(word) for word in words if word), f"{percent} %" if percent else "")
+    said = joined(*(plain(word) for word in words if word), f"{plain(percent)} %" if percent else "")
     return f"{plain(at(params, 'token'))}: {said}"
 
 
