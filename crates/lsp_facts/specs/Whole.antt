@@ -1,22 +1,23 @@
 -- How long a content really is whose header says less: where it breaks off too early, and the bytes
 -- that follow it in its stream are the rest of its JSON text.
-use Rattle.std.specs.Prelude.{ℕ, suc, List, [], ◌∷◌, ◌++◌, length, map, take, filter, nat_lt}
-use Rattle.std.specs.Prelude.{◌&&◌, ◌==◌, codes, decimal, if◌then◌else◌, Option, Some, None}
-use Rattle.std.specs.Prelude.{option_and_then}
+use Rattle.std.specs.Prelude.{ℕ, ◌+◌, ◌-◌, suc, List, [], ◌∷◌, ◌++◌, length, take, nat_lt, ◌==◌}
+use Rattle.std.specs.Prelude.{codes, decimal, if◌then◌else◌, Option, Some, None, option_and_then}
 use Rattle.std.specs.Bool.{then_some}
 use Rattle.std.specs.Str.{chars, is_utf8}
 use Rattle.lsp_text.specs.Places.{units}
 use Rattle.lsp_types.specs.declared.position.Encoding.{Encoding}
 use Rattle.lsp_types.specs.declared.position.Encoding.TheVariants.{Utf8, Utf16, Utf32}
-use Rattle.lsp_verdict.specs.Report.{encoding_name, line}
+use Rattle.lsp_verdict.specs.Report.{line}
+use Rattle.lsp_facts.specs.DocumentFacts.{encodings_fact}
 use Rattle.lsp_facts.specs.Fact.{Fact}
-use Rattle.lsp_facts.specs.FrameFronts.{may_go_on}
 use Rattle.lsp_facts.specs.Grammar.{is_whole, left_open, move_in, to}
 use Rattle.lsp_facts.specs.declared.grammar.Around.{Around}
 use Rattle.lsp_facts.specs.declared.grammar.Gap.TheVariants as gaps
 use Rattle.lsp_facts.specs.declared.grammar.Move.{Move}
 use Rattle.lsp_facts.specs.declared.grammar.Place.{Place}
 use Rattle.lsp_facts.specs.declared.grammar.Place.TheVariants as places
+use Rattle.lsp_facts.specs.declared.json_text.Walk.{Walk}
+use Rattle.lsp_facts.specs.declared.json_text.Walk.TheVariants as walks
 
 -- ---- where a JSON text ends
 
@@ -32,43 +33,56 @@ end_from n place opened (x ∷ xs) =
     end_by (suc n) (λ place opened. end_from (suc n) place opened xs) opened
     (move_in place opened x)
 
+-- where a walk ends, from such a number on, which came to its end after so many bytes; or where the
+-- text ends in the bytes after these
+abbrev pub end_at : ℕ → Walk → ℕ → List Around → List ℕ → Option ℕ
+end_at n (walks.Ends k) size opened more = Some (n + k)
+end_at n walks.Breaks size opened more = None
+end_at n (walks.GoesOn place) size opened more = end_from (n + size) place opened more
+
+abbrev pub ended : Walk → Option ℕ
+ended (walks.Ends k) = Some k
+ended walk = None
+
 -- **how many of these bytes are the JSON text in front of them**, up to the bracket that closes it
 abbrev pub text_end : List ℕ → Option ℕ
 text_end bytes = end_from 0 (places.Gap gaps.Value) [] bytes
 
 -- ---- a content, and what follows it
 
--- the text ends behind the content
-abbrev pub if_longer : List ℕ → List ℕ → ℕ → Option ℕ
-if_longer content behind n =
-    then_some (nat_lt (length content) n && is_utf8 (take n (content ++ behind))) n
+abbrev pub past : ℕ → ℕ → Option ℕ
+past size n = then_some (nat_lt size n) (n - size)
 
--- **how many bytes the content would have**, where no frame can begin behind it, so that what
--- follows is its rest
-abbrev pub whole_length : List ℕ → List ℕ → Option ℕ
-whole_length content behind =
-    if may_go_on behind then None
-    else option_and_then (if_longer content behind) (text_end (content ++ behind))
+-- how many of the bytes behind a content its JSON text has, where it ends there
+abbrev pub missing : List ℕ → List ℕ → Option ℕ
+missing content behind =
+    option_and_then (past (length content)) (text_end (content ++ behind))
+
+abbrev pub if_utf8 : List ℕ → Option (List ℕ)
+if_utf8 text = then_some (is_utf8 text) text
+
+-- **the JSON text that begins with the content and ends behind it**
+abbrev pub whole_text : List ℕ → List ℕ → Option (List ℕ)
+whole_text content behind =
+    option_and_then (λ n. if_utf8 (content ++ take n behind)) (missing content behind)
 
 -- ---- what is said
+
+abbrev pub counted_in : ℕ → List ℕ → Encoding → List Encoding
+counted_in number text enc = if units enc (chars text) == number then enc ∷ [] else []
 
 -- in which encodings a text has so many units
 abbrev pub counting : ℕ → List ℕ → List Encoding
 counting number text =
-    filter (λ enc. units enc (chars text) == number) (Utf8 ∷ Utf16 ∷ Utf32 ∷ [])
-
-abbrev pub counts_facts : List Encoding → List Fact
-counts_facts [] = []
-counts_facts (enc ∷ encs) =
-    line (codes "counts" ∷ map (λ e. encoding_name (Some e)) (enc ∷ encs)) ∷ []
+    counted_in number text Utf8 ++ counted_in number text Utf16 ++ counted_in number text Utf32
 
 -- the number of bytes, and in which encodings the header has counted the text
-abbrev pub length_facts : List ℕ → List ℕ → Option ℕ → List Fact
-length_facts content behind None = []
-length_facts content behind (Some n) =
-    line (codes "whole" ∷ decimal n ∷ [])
-    ∷ counts_facts (counting (length content) (take n (content ++ behind)))
+abbrev pub length_facts : ℕ → Option (List ℕ) → List Fact
+length_facts number None = []
+length_facts number (Some text) =
+    line (codes "whole" ∷ decimal (length text) ∷ [])
+    ∷ encodings_fact (codes "counts") (counting number text)
 
 -- **what is said about a content that is no JSON text, and these bytes behind it**
 abbrev pub whole_facts : List ℕ → List ℕ → List Fact
-whole_facts content behind = length_facts content behind (whole_length content behind)
+whole_facts content behind = length_facts (length content) (whole_text content behind)

@@ -5,7 +5,7 @@ use Rattle.std.specs.Fmt.{digits}
 use Rattle.std.specs.Str.{chars, is_utf8}
 use lib.Utf8.{encode}
 use Rattle.lsp_facts.specs.Fact.{fact_lines}
-use Rattle.lsp_facts.specs.Whole.{text_end, whole_facts, whole_length}
+use Rattle.lsp_facts.specs.Whole.{missing, text_end, whole_facts}
 
 -- ---- where a text ends
 
@@ -17,6 +17,20 @@ open_still = refl
 
 no_text : text_end (codes "{\"a\":tru}") ≡ None
 no_text = refl
+
+-- ---- how much of it is behind the content
+
+-- what follows looks like a header line, and is the rest of a string
+like_a_header : missing (codes "{\"a\":\"") (codes "b: c\"}") ≡ Some 6
+like_a_header = refl
+
+-- the text is at its end before the content is
+too_many : missing (codes "{} ") (codes "\"}") ≡ None
+too_many = refl
+
+-- another frame follows
+a_frame : missing (codes "{\"a\":\"") (codes "Content-Length: 2" ++ 13 ∷ 10 ∷ codes "\"}") ≡ None
+a_frame = refl
 
 -- ---- what is said
 
@@ -30,12 +44,7 @@ one_short : fact_lines (whole_facts (codes "{\"a\":1") (codes "}")) ≡ codes "w
 unfolding is_utf8 chars encode digits
 one_short = refl
 
--- a frame could begin there
-like_a_header : whole_length (codes "{\"a\":\"") (codes "b: c\"}") ≡ None
-unfolding is_utf8 chars encode
-like_a_header = refl
-
--- the text is at its end before the content is
-too_many : whole_length (codes "{} ") (codes "\"}") ≡ None
-unfolding is_utf8 chars encode
-too_many = refl
+-- the text would be no UTF-8
+no_utf8 : fact_lines (whole_facts (codes "{\"a\":\"") (255 ∷ codes "\"}")) ≡ []
+unfolding is_utf8 chars encode digits
+no_utf8 = refl

@@ -23,7 +23,7 @@ returns-in_default c = record {
   memory = tt;
   says = λ terms before h stands seen.
       let rule = kept_seen terms before h c.args.seen.now.fate c.in_default.not-Offends seen.fate in
-      first_kept terms before h c.args.self.now _ stands (ShowsFault c.args.seen.now.raw)
+      first_kept terms before h c.args.self.now _ stands (ShowsFault c.args.seen.now.raw (heard_events before))
       (string_bytes c.args.text.now) rule (c.in_ok-keep.ensures terms before h stands.trail seen)
       (subst (AreMisfits _) (sym (found_kept-push terms before h))
       (c.in_ok-note_kept.ensures terms before h _ stands.misfits seen))
@@ -78,7 +78,7 @@ returns c = record {
       let has = subst (λ (f : Fate). HasFate terms before h f) c.in-Offends.is seen.fate in
       let last = c.last_offence-offence.ensures before h seen.stood.counted seen.few seen.is
       seen.noted in
-      first_told terms before h c.args.self.now c.args.self.now stands (ShowsFault c.args.seen.now.raw)
+      first_told terms before h c.args.self.now c.args.self.now stands (ShowsFault c.args.seen.now.raw (heard_events before))
       (string_bytes c.args.text.now) _ rule verdict c.in_ok-boxed.boxed _ _
       c.in_ok-boxed.ensures.ok has.0
       (c.verdict-verdict.ensures ∙ ap (λ (x : Offence). x.no) last)

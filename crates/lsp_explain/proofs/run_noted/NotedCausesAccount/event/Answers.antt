@@ -43,7 +43,7 @@ returns c = record {
       c.in_ok-flow.flow told.goes in
       let along = subst (λ (t : Terms). AreAlong t noted before all) (sym seen.stood.by)
       (c.in_ok-note.ensures terms before h stands.causes.trail stands.notes seen) in
-      noted_says completeness terms before h (ShowsFault c.args.seen.now.raw)
+      noted_says completeness terms before h (ShowsFault c.args.seen.now.raw (heard_events before))
       (AllStands causes terms all) _ c.in_ok-flow.flow (string_bytes c.args.text.now)
       (string_bytes c.event.new.text) (string_bytes c.push_new.new.lines) told
       (subst (λ (t : Terms). string_bytes c.push_new.new.lines
