@@ -58,7 +58,8 @@ pub(crate) fn push_offence(
         → (offence_view offence.now).no
         ≡ no_by (heard_events before) h.note.event offence.now.rule
         → TellsOf terms before h offence.now.rule
-        (ShowsFault seen.now.raw (heard_events before)) (string_bytes text.old) (string_bytes text.new)) }
+        (ShowsFault seen.now.raw (heard_events before)) (string_bytes text.old)
+        (string_bytes text.new)) }
 {
     push_report(text, offence)?;
     push_event(text, offence, seen.raw, seen.spoken)?;

@@ -178,7 +178,7 @@ module _ {from to : code.Raw} (same : from ≡ to) {terms : Terms} {before : Lis
       → Saw run terms before h (ShowsFault to (heard_events before)) old new Stands m d c flow
   saw_of {run} {old} {new} {m} {d} {c} {flow} =
       subst (λ (r : code.Raw).
-          Saw run terms before h (ShowsFault r (heard_events before)) old new Stands m d c flow) same
+      Saw run terms before h (ShowsFault r (heard_events before)) old new Stands m d c flow) same
 
 -- ---- a fault: a content that is no message, or of the frames
 

@@ -99,12 +99,12 @@ ends_in d new bytes last gives (inr (front, is, some)) = (
 ends_in d new bytes last gives (inl (front, is, none)) =
     elim (cases_lt (length front) (length gives.frame)) [
       | inl less ↦
-        let cut = cut_later front last gives.frame new.rest (sym is ∙ gives.rest)
-        (omega (arith, less)) in
-        (cut.0, cut.2, omega (arith, less, ap length cut.1, length-append front cut.0))
+          let cut = cut_later front last gives.frame new.rest (sym is ∙ gives.rest)
+          (omega (arith, less)) in
+          (cut.0, cut.2, omega (arith, less, ap length cut.1, length-append front cut.0))
       | inr more ↦
-        let cut = cut_later gives.frame new.rest front last (sym gives.rest ∙ is) more in
-        absurd (none bytes cut.0 (gives.frame, cut.1, gives.is_frame))
+          let cut = cut_later gives.frame new.rest front last (sym gives.rest ∙ is) more in
+          absurd (none bytes cut.0 (gives.frame, cut.1, gives.is_frame))
     ]
 
 -- where a content comes next, it ends in the last record

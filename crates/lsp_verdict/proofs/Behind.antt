@@ -13,22 +13,24 @@ use Rattle.lsp_log.specs.Log.{Record, chunk, shown}
 use Rattle.lsp_session.proofs.LawLemmas.{same_side-refl}
 use Rattle.lsp_session.specs.Sent.{same_side}
 use Rattle.lsp_types.specs.declared.side.Side.{Side}
+use Rattle.lsp_types.specs.declared.side.Side.TheVariants.{Editor, Server}
 use Rattle.lsp_verdict.specs.Event.{Event}
-use Rattle.lsp_verdict.specs.Heard.{AreBehind, HasBehind, after_byte}
+use Rattle.lsp_verdict.specs.Heard.{AreBehind, AreRests, HasBehind, Rests, after_byte}
 use Rattle.lsp_verdict.specs.Offences.{IsNoted, Noted, events_of}
 use Rattle.lsp_verdict.specs.Placed.{Raw, joined}
 use Rattle.lsp_verdict.specs.Verdict.{count_of, is_of}
 use Rattle.lsp_verdict.proofs.Below.{some_stream}
+use Rattle.lsp_verdict.proofs.Outcomes.{one_rest}
 use Rattle.lsp_verdict.proofs.Sessions.Joined.{is_own, own_read}
 
 -- ---- it is there once
 
 module _ (limits : Bounds) (side : Side) (records : List Record) where
-  one_each : (bytes : List ℕ) (contents as bs : List (List ℕ))
-      → AreBehind limits side records bytes contents as
-      → AreBehind limits side records bytes contents bs → as ≡ bs
-  one_each bytes [] as bs p q = p ∙ sym q
-  one_each bytes (c ∷ contents) as bs (after, begins, (more, is, all))
+  one_each : (bytes : List ℕ) (contents us vs : List (List ℕ))
+      → AreBehind limits side records bytes contents us
+      → AreBehind limits side records bytes contents vs → us ≡ vs
+  one_each bytes [] us vs p q = p ∙ sym q
+  one_each bytes (c ∷ contents) us vs (after, begins, (more, is, all))
       (other, starts, (rest, are, left)) =
       let same : after ≡ other = (same_frame limits bytes c c after other begins starts).1 in
       let tails : more ≡ rest = one_each other contents more rest
@@ -79,15 +81,38 @@ module _ (limits : Bounds) (side : Side) (records : List Record) where
       (omega (arith, count))
 
 pub one_behind : (limits : Bounds) (side : Side) (records others : List Record)
-    (as bs : List (List ℕ)) → records ≡ others → HasBehind limits side records as
-    → HasBehind limits side others bs → as ≡ bs
-one_behind limits side records others as bs same p q =
-    let own : HasBehind limits side others as =
-    subst (λ (w : List Record). HasBehind limits side w as) same p in
+    (us vs : List (List ℕ)) → records ≡ others → HasBehind limits side records us
+    → HasBehind limits side others vs → us ≡ vs
+one_behind limits side records others us vs same p q =
+    let own : HasBehind limits side others us =
+    subst (λ (w : List Record). HasBehind limits side w us) same p in
     let one = one_stream limits (joined side others) own.0 q.0 own.1 q.1 own.2 q.2 own.3 q.3 in
-    one_each limits side others (joined side others) q.0 as bs
-    (subst (λ (w : List (List ℕ)). AreBehind limits side others (joined side others) w as)
+    one_each limits side others (joined side others) q.0 us vs
+    (subst (λ (w : List (List ℕ)). AreBehind limits side others (joined side others) w us)
     one.contents own.4) q.4
+
+-- records leave one thing
+pub one_rests : (limits : Bounds) (records others : List Record) (a b : Rests) → records ≡ others
+    → AreRests limits records a → AreRests limits others b → a ≡ b
+one_rests limits records others a b same p q =
+    let editor : a.editor ≡ b.editor =
+    one_rest limits (joined Editor records) (joined Editor others) a.editor b.editor
+    (ap (joined Editor) same) p.editor q.editor in
+    let server : a.server ≡ b.server =
+    one_rest limits (joined Server records) (joined Server others) a.server b.server
+    (ap (joined Server) same) p.server q.server in
+    let by_editor : a.editor_behind ≡ b.editor_behind =
+    one_behind limits Editor records others a.editor_behind b.editor_behind same p.editor_behind
+    q.editor_behind in
+    let by_server : a.server_behind ≡ b.server_behind =
+    one_behind limits Server records others a.server_behind b.server_behind same p.server_behind
+    q.server_behind in
+    λ i. record {
+      editor = editor i;
+      server = server i;
+      editor_behind = by_editor i;
+      server_behind = by_server i;
+    }
 
 -- ---- the bytes at hand
 
@@ -97,6 +122,9 @@ pub at_hand : (side : Side) (before more : List Record) (front rest : List ℕ) 
     → after_byte side n (before ++ chunk side (front ++ rest) ∷ more) ≡ rest
 at_hand side [] more front rest n some is = by_side (same_side side side) (same_side-refl side)
   where
+    at : n ≡ length front
+    at = omega (arith, is)
+
     within : nat_le n (length (front ++ rest)) ≡ true
     within = let fits = length-append front rest in grind (arith, nat_tests)
 
@@ -107,23 +135,25 @@ at_hand side [] more front rest n some is = by_side (same_side side side) (same_
     by_side true same =
         ap (λ (b : Bool). if b then drop n (front ++ rest)
         else after_byte side (n - length (front ++ rest)) more) within
-        ∙ ap (λ (k : ℕ). drop k (front ++ rest)) is ∙ drop-append_seam front rest
-at_hand side (chunk by b ∷ before) more front rest n some is = by_side (same_side side by) is
+        ∙ ap (λ (k : ℕ). drop k (front ++ rest)) at ∙ drop-append_seam front rest
+at_hand side (chunk by b ∷ before) more front rest n some is =
+    by_side (same_side side by) is (λ k at. at_hand side before more front rest k some at)
   where
-    abbrev left : List Record
-    left = before ++ chunk side (front ++ rest) ∷ more
-
     by_side : (own : Bool)
         → n ≡ length (if own then b ++ joined side before else joined side before) + length front
+        → ((k : ℕ) → k ≡ length (joined side before) + length front
+        → after_byte side k (before ++ chunk side (front ++ rest) ∷ more) ≡ rest)
         → (if own then (if nat_le n (length b) then drop n b
-        else after_byte side (n - length b) left) else after_byte side n left) ≡ rest
-    by_side true at =
+        else after_byte side (n - length b) (before ++ chunk side (front ++ rest) ∷ more))
+        else after_byte side n (before ++ chunk side (front ++ rest) ∷ more)) ≡ rest
+    by_side true at later =
         let size = length-append b (joined side before) in
         let past : length b < n = omega (arith, at, size, some) in
         let beyond : nat_le n (length b) ≡ false = grind (arith, nat_tests) in
-        ap (λ (t : Bool). if t then drop n b else after_byte side (n - length b) left) beyond
-        ∙ at_hand side before more front rest (n - length b) some (omega (arith, at, size))
-    by_side false at = at_hand side before more front rest n some at
+        ap (λ (t : Bool). if t then drop n b
+        else after_byte side (n - length b) (before ++ chunk side (front ++ rest) ∷ more)) beyond
+        ∙ later (n - length b) (omega (arith, at, size))
+    by_side false at later = later n at
 at_hand side (shown number uri text ∷ before) more front rest n some is =
     at_hand side before more front rest n some is
 

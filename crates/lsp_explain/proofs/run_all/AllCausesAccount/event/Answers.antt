@@ -1,5 +1,6 @@
 use Rattle.std.proofs.Common.{◌∙◌, ap, refl, string_bytes, subst}
 use Rattle.lsp_replay.specs.Telling.{HasFate, ShowsFault, rule_of}
+use Rattle.lsp_verdict.specs.Heard.{heard_events}
 use Rattle.lsp_replay.specs.declared.seen.Fate.{Fate}
 use Rattle.lsp_survey.proofs.SurveySteps.{offence_is}
 use Rattle.lsp_replay.proofs.AllHeard.{kept_seen}
