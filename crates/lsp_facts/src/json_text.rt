@@ -270,6 +270,7 @@ fn walk(opened: &mut Vec<Around>, from: Place, bytes: &[u8]) -> Result<Walk>
     ensures ends { IfOk result (λ walk. (n : ℕ) (more : List ℕ)
         → whole.end_from n from opened.old.items (bytes.now ++ more)
         ≡ whole.end_at n walk (length bytes.now) opened.new.items more) }
+    ensures some { IfOk result (λ walk. IfSome (whole.ended walk) (λ n. 0 < n)) }
     ensures within { IfOk result (λ walk. IfSome (whole.ended walk) (λ n. n ≤ length bytes.now)) }
 {
     let mut place = from;

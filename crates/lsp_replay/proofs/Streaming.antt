@@ -396,18 +396,15 @@ module _ (limits : Bounds) (records : List Record) (given : List Raw) where
             (sym (joined_other side bytes)) (own_due (other_side side) s h))
             (λ none.
             let whole = sym fault ∙ none in
-            (bytes, (records, refl), inl (d.rest, behind whole, none_begun whole))),
+            (bytes, (records, refl), inl ((decoder_of side s).rest, behind whole, none_begun whole))),
       )
     where
-      d : decoder.State
-      d = decoder_of side s
-
       -- what was held begins with no frame
-      none_begun : d.fault ≡ None
-          → (content after : List ℕ) → Begins e.limits d.rest content after → ⊥
+      none_begun : (decoder_of side s).fault ≡ None
+          → (content after : List ℕ) → Begins e.limits (decoder_of side s).rest content after → ⊥
       none_begun whole = subst (λ (b : Bounds).
-          (content after : List ℕ) → Begins b d.rest content after → ⊥) (sym same)
-          (due_rest side d (joined side records) (own_due side s h) whole).no_more
+          (content after : List ℕ) → Begins b (decoder_of side s).rest content after → ⊥) (sym same)
+          (due_rest side (decoder_of side s) (joined side records) (own_due side s h) whole).no_more
 
   pub shown_pushed : (s : State) (x : Snapshot) (number : ℤ) → x.version ≡ number
       → Stands limits s records given []
@@ -439,10 +436,11 @@ pushed_fault s piece = by_fault s.fault
     by_fault None = refl
     by_fault (Some rule) = refl
 
-pub pushed_rest : (s : decoder.State) (piece : List ℕ) → s.fault ≡ None
-    → (decoder.pushed s piece).rest ≡ s.rest ++ piece
-pushed_rest s piece whole =
-    ap (λ (o : Option ℕ). (decoder.taken_at o s (length piece) piece).rest) whole
+pub pushed_rest : (s new : decoder.State) (piece : List ℕ)
+    → decoder.FitsIn new (decoder.pushed s piece) → s.fault ≡ None → new.rest ≡ s.rest ++ piece
+pushed_rest s new piece fits whole =
+    ap (λ (w : decoder.State). w.rest) fits.same
+    ∙ ap (λ (o : Option ℕ). (decoder.taken_at o s (length piece) piece).rest) whole
 
 pub pushed_limits : (s : decoder.State) (piece : List ℕ)
     → (decoder.pushed s piece).limits ≡ s.limits

@@ -203,7 +203,7 @@ fn see_content<A: Account>(
     spoken: &mut Spoken,
     text: &mut String,
 ) -> Result<Flow>
-    requires { raw_view raw.entry ≡ placed.content side content.now }
+    requires { raw_view raw ≡ placed.content side content.now }
     ensures asked { A.asked account.new ≡ A.asked account.old }
     ensures saw { IfOk result (λ flow. (terms : Terms) (before : List Heard) (h : Heard)
         → Comes (raw_view raw.entry) terms held.old.session held.old.docs held.old.counts before h

@@ -14,7 +14,7 @@ returns-in_ok-push_owned-in-Bytes-Editor-default-clause-ok c =
     let pushed = c.in_ok-push_owned-in-Bytes-Editor-default.ensures in
     let same = ap (λ (s : State). s.limits) pushed.ok.same ∙ pushed_limits _ _ in
     let fault = ap (λ (s : State). s.fault) pushed.ok.same ∙ pushed_fault _ _ in
-    let rest = λ whole. ap (λ (s : State). s.rest) pushed.ok.same ∙ pushed_rest _ _ whole in
+    let rest = pushed_rest _ _ _ pushed.ok in
     let stands = pushed.stands in
     rw (← c.self.view_is, at.is, at.side-is)
     (λ limits records given h.
@@ -27,7 +27,7 @@ returns-in_ok-push_owned-in-Bytes-Server-default-clause-ok c =
     let pushed = c.in_ok-push_owned-in-Bytes-Server-default.ensures in
     let same = ap (λ (s : State). s.limits) pushed.ok.same ∙ pushed_limits _ _ in
     let fault = ap (λ (s : State). s.fault) pushed.ok.same ∙ pushed_fault _ _ in
-    let rest = λ whole. ap (λ (s : State). s.rest) pushed.ok.same ∙ pushed_rest _ _ whole in
+    let rest = pushed_rest _ _ _ pushed.ok in
     let stands = pushed.stands in
     rw (← c.self.view_is, at.is, at.side-is)
     (λ limits records given h.
