@@ -6,7 +6,7 @@ pub(crate) type Row = (&'static str, &'static str);
 
 /// The rows of the lines of a report: of a verdict, of a log that was not judged, of details, of
 /// notes, and of events.
-pub(crate) const ROWS: [Row; 110] = [
+pub(crate) const ROWS: [Row; 112] = [
     ("yes", "yes"),
     ("yes", "yes remark=nothing-compared"),
     ("read fault", "read fault"),
