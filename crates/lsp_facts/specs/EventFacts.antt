@@ -238,8 +238,8 @@ log_facts limits log format records (Some (number, code)) =
 
 -- ---- any event that offends
 
--- of a content that breaks this rule, which comes after these events, or of the header part that has
--- a fault of the frames; this is left after the frames of both sides' whole streams
+-- of a content that breaks this rule, which comes after these events, or of the header part that
+-- has a fault of the frames; these are the rests of both sides' whole streams
 abbrev pub fault_facts : Rests → List Event → ℕ → Raw → List Fact
 fault_facts rests before rule (placed.content side bytes) =
     content_facts rule bytes (behind_at rests before side)

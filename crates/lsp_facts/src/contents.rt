@@ -16,10 +16,10 @@ use std::alloc::Global;
 /// How many bytes are shown before the place where a content breaks, and how many after it.
 const AROUND_BYTES: usize = 32;
 
-/// What is said about a content that breaks this rule, 201 to 209, behind which these bytes are at
-/// hand: how it begins, as far as that is UTF-8; under 201 where it is no longer the front of a JSON
-/// text, what is before and after that place, and how long it is where with some of the bytes behind
-/// it, it is a JSON text; under 209 the member of its params that does not have its shape.
+/// What is said about a content that breaks this rule, 201 to 209, and these bytes at hand behind
+/// it: how it begins, as far as that is UTF-8; under 201 where it is no longer the front of a JSON
+/// text, what is before and after that place, and how long the JSON text is that ends behind the
+/// content; under 209 the member of its params that does not have its shape.
 ///
 /// # Errors
 /// `Memory` where memory was refused.
