@@ -90,18 +90,19 @@ pub some_rests : (limits : Bounds) (records : List Record)
 some_rests limits records =
     let editor = some_stream limits (joined Editor records) in
     let server = some_stream limits (joined Server records) in
-    let behind = λ side. some_behind limits side records in (
+    let by_editor = some_behind limits Editor records in
+    let by_server = some_behind limits Server records in (
       record {
         editor = editor.1;
         server = server.1;
-        editor_behind = (behind Editor).0;
-        server_behind = (behind Server).0;
+        editor_behind = by_editor.0;
+        server_behind = by_server.0;
       },
       record {
         editor = (editor.0, editor.2, editor.3);
         server = (server.0, server.2, server.3);
-        editor_behind = (behind Editor).1;
-        server_behind = (behind Server).1;
+        editor_behind = by_editor.1;
+        server_behind = by_server.1;
       },
     )
 
