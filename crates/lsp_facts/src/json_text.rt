@@ -266,7 +266,7 @@ enum Walk {
 }
 
 /// Walks over the next bytes of a text, from this place on, up to where it may end.
-fn walk(opened: &mut Vec<Around>, from: Place, bytes: &[u8]) -> Result<Walk>
+fn walk_over(opened: &mut Vec<Around>, from: Place, bytes: &[u8]) -> Result<Walk>
     ensures ends { IfOk result (λ walk. (n : ℕ) (more : List ℕ)
         → whole.end_from n from opened.old.items (bytes.now ++ more)
         ≡ whole.end_at n walk (length bytes.now) opened.new.items more) }
@@ -295,10 +295,10 @@ pub(crate) fn more_of_text(alloc: Global, content: &[u8], behind: &[u8]) -> Resu
     ensures within { IfOk result (λ more. IfSome more (λ n. n ≤ length behind.now)) }
 {
     let mut opened = Vec::new(alloc);
-    let Walk::GoesOn(place) = walk(&mut opened, Place::Gap(Gap::Value), content)? else {
+    let Walk::GoesOn(place) = walk_over(&mut opened, Place::Gap(Gap::Value), content)? else {
         return Ok(None);
     };
-    let Walk::Ends(more) = walk(&mut opened, place, behind)? else {
+    let Walk::Ends(more) = walk_over(&mut opened, place, behind)? else {
         return Ok(None);
     };
     Ok(Some(more))
