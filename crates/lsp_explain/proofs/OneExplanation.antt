@@ -36,7 +36,7 @@ module _ (rests : Rests) (terms : Terms) where
   some_told b offends =
       let before = events_of (notes_of b.before) in
       let earlier = earlier_at terms before b.here.note.event in
-      let plain = some_facts terms (kept_of terms before) b.rule earlier rests b.here.raw
+      let plain = some_facts terms (kept_of terms before) b.rule earlier rests before b.here.raw
       b.here.note.event offends in
       let own : Explained = record {
         no = no_by before b.here.note.event b.rule;
@@ -61,7 +61,8 @@ module _ (rests : Rests) (terms : Terms) where
       p.facts_are.2
       ∙ ap (λ l. l ++ traced terms before b.here.note.event b.rule)
       (one_facts terms (kept_of terms before) b.rule (earlier_at terms before b.here.note.event)
-      p.facts_are.0 q.facts_are.0 rests b.here.raw b.here.note.event p.facts_are.1 q.facts_are.1)
+      p.facts_are.0 q.facts_are.0 rests before b.here.raw b.here.note.event p.facts_are.1
+      q.facts_are.1)
       ∙ sym q.facts_are.2 in
       let no : d.no ≡ e.no = p.no_is ∙ sym q.no_is in
       let event : d.event ≡ e.event =

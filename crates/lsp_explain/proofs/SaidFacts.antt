@@ -17,7 +17,7 @@ use Rattle.lsp_session.specs.Rules.{rule_after}
 use Rattle.lsp_session.specs.Sent.{Sent}
 use Rattle.lsp_types.specs.declared.side.Side.{Side}
 use Rattle.lsp_verdict.specs.Event.{Event, message, fault, sent_in, snapshot}
-use Rattle.lsp_verdict.specs.Heard.{Rests, rest_of}
+use Rattle.lsp_verdict.specs.Heard.{Rests, behind_at, rest_of}
 use Rattle.lsp_verdict.specs.Given.{raw_view}
 use Rattle.lsp_verdict.specs.Offences.{kept_of, said_at}
 use Rattle.lsp_verdict.specs.Placed.{Raw, Reads, broken, content}
@@ -41,7 +41,7 @@ module _ (terms : Terms) (before : List Event) (rule : ℕ) where
   -- the facts on this event, with the events that brought it
   abbrev pub AreAll : Rests → Raw → Event → List Fact → Type 0
   AreAll rests raw event facts =
-      AreTraced (AreFacts rests terms kept raw event rule) (earlier_at terms before event)
+      AreTraced (AreFacts rests before terms kept raw event rule) (earlier_at terms before event)
       (traced terms before event rule) facts
 
   -- a fault of the frames
@@ -54,13 +54,16 @@ module _ (terms : Terms) (before : List Event) (rule : ℕ) where
       (facts, says ∙ ap front_facts fits, sym (append-nil facts))
 
   -- a content that is no message
-  pub unread_said : (rests : Rests) (side : Side) (bytes : List ℕ) (event : Event)
+  pub unread_said : (rests : Rests) (side : Side) (bytes behind : List ℕ) (event : Event)
       (facts : List Fact) → Reads (content side bytes) event → MaySpeak kept event None
-      → facts ≡ content_facts rule bytes → AreAll rests (content side bytes) event facts
-  unread_said rests side bytes (fault by code) facts reads silent says =
-      (facts, says, sym (append-nil facts))
-  unread_said rests side bytes (message m) facts reads silent says = absurd (silent m refl)
-  unread_said rests side bytes (snapshot uri number text) facts reads silent says = absurd reads
+      → behind ≡ behind_at rests before side → facts ≡ content_facts rule bytes behind
+      → AreAll rests (content side bytes) event facts
+  unread_said rests side bytes behind (fault by code) facts reads silent fits says =
+      (facts, says ∙ ap (content_facts rule bytes) fits, sym (append-nil facts))
+  unread_said rests side bytes behind (message m) facts reads silent fits says =
+      absurd (silent m refl)
+  unread_said rests side bytes behind (snapshot uri number text) facts reads silent fits says =
+      absurd reads
 
   module _ (rests : Rests) (raw : Raw) (event : Event) (facts : List Fact) where
     -- a message that breaks a rule on messages
@@ -155,9 +158,10 @@ module _ (rule : ℕ) (m : Sent) (side : Side) (said : Message) (by : m.side ≡
 
 -- what is no content is told without words
 pub bare_said : (event number : ℕ) (who : Who) (raw : lent.Raw)
-    → ((side : Side) (bytes : Bor (List ℕ)) → raw ≡ lents.Content side bytes → ⊥)
+    → ((side : Side) (bytes behind : Bor (List ℕ)) → raw ≡ lents.Content side bytes behind → ⊥)
     → bare_event event who number ≡ event_line event who number (raw_view raw)
-bare_said event number who (lents.Content side bytes) not = absurd (not side bytes refl)
+bare_said event number who (lents.Content side bytes behind) not =
+    absurd (not side bytes behind refl)
 bare_said event number who (lents.Broken side rule rest) not = refl
 bare_said event number who (lents.Snapshot version uri text) not = refl
 

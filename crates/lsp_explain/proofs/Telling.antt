@@ -104,7 +104,7 @@ stands_before past terms before h rule trail stood offends = record {
 pub tells_of : (terms : Terms) (before : List Heard) (h : Heard) (o : Offence) (raw : Raw)
     (Fits : Rests → Type 0) (facts : List Fact) (old mid next new : List ℕ) → h.raw ≡ raw
     → (offence_view o).no ≡ no_by (heard_events before) h.note.event o.rule
-    → ((rests : Rests) → Fits rests → AreTraced (AreFacts rests terms
+    → ((rests : Rests) → Fits rests → AreTraced (AreFacts rests (heard_events before) terms
     (kept_of terms (heard_events before)) raw h.note.event o.rule)
     (earlier_at terms (heard_events before) h.note.event)
     (traced terms (heard_events before) h.note.event o.rule) facts)
@@ -122,7 +122,7 @@ tells_of terms before h o raw Fits facts old mid next new raw_is no_is are first
       explains = λ rests fits. record {
         no_is = no_is;
         event_is = ap (event_line o.event o.who o.number) (sym raw_is);
-        facts_are = subst (λ (w : Raw). AreTraced (AreFacts rests terms
+        facts_are = subst (λ (w : Raw). AreTraced (AreFacts rests (heard_events before) terms
             (kept_of terms (heard_events before)) w h.note.event o.rule)
             (earlier_at terms (heard_events before) h.note.event)
             (traced terms (heard_events before) h.note.event o.rule) facts) (sym raw_is)
@@ -145,11 +145,11 @@ pub told_of : (terms : Terms) (before : List Heard) (h : Heard) (s : Seen) (rule
     → IsSeen m d c s terms before h
     → (IsSeen m d c s terms before h → HasFate terms before h (fates.Offends o.rule tried)
     → (offence_view o).no ≡ no_by (heard_events before) h.note.event o.rule
-    → TellsOf terms before h o.rule (ShowsFault s.raw) old new)
-    → TellsOf terms before h rule (ShowsFault s.raw) old new
+    → TellsOf terms before h o.rule (ShowsFault s.raw (heard_events before)) old new)
+    → TellsOf terms before h rule (ShowsFault s.raw (heard_events before)) old new
 told_of terms before h s rule tried o late m d c old new is last seen tells =
     let named = by_rule_of o (heard_events before) h.note.event rule late last in
-    subst (λ r. TellsOf terms before h r (ShowsFault s.raw) old new) named.0
+    subst (λ r. TellsOf terms before h r (ShowsFault s.raw (heard_events before)) old new) named.0
     (tells seen (subst (λ r. HasFate terms before h (fates.Offends r tried)) (sym named.0)
     (subst (λ (f : Fate). HasFate terms before h f) is seen.fate)) named.1)
 

@@ -82,9 +82,9 @@ is_message terms events (snapshot uri number text) kept says = absurd (cc says)
 
 -- and lent as a content
 pub no_content : (raw : lent.Raw) (sent : Sent)
-    → ((side : Side) (bytes : Bor (List ℕ)) → raw ≡ lents.Content side bytes → ⊥)
+    → ((side : Side) (bytes behind : Bor (List ℕ)) → raw ≡ lents.Content side bytes behind → ⊥)
     → Reads (raw_view raw) (message sent) → ⊥
-no_content (lents.Content side bytes) sent not reads = not side bytes refl
+no_content (lents.Content side bytes behind) sent not reads = not side bytes behind refl
 no_content (lents.Broken side rule rest) sent not reads = absurd (cc reads)
 no_content (lents.Snapshot version uri text) sent not reads = absurd (cc reads)
 

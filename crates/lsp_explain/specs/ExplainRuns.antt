@@ -162,7 +162,12 @@ pub record TellsOf (terms : Terms) (before : List Heard) (h : Heard) (rule : ℕ
 
 -- the bytes of both sides after their last whole frames
 abbrev pub rests_held : LogEvents → Rests
-rests_held e = record { editor = e.streams.editor.rest; server = e.streams.server.rest }
+rests_held e = record {
+  editor = e.streams.editor.rest;
+  server = e.streams.server.rest;
+  editor_behind = [];
+  server_behind = [];
+}
 
 -- the facts on a fault
 abbrev pub flaw_held : LogEvents → End → List Fact

@@ -62,8 +62,8 @@ pub record Explains (rests : Rests) (terms : Terms) (b : Breach) (e : Explained)
   pub no_is : e.no ≡ no_by (events_of (notes_of b.before)) b.here.note.event b.rule
   pub event_is : e.event ≡ event_of e.no b.here.raw
   pub facts_are : AreTraced
-      (AreFacts rests terms (kept_of terms (events_of (notes_of b.before))) b.here.raw
-      b.here.note.event b.rule)
+      (AreFacts rests (events_of (notes_of b.before)) terms
+      (kept_of terms (events_of (notes_of b.before))) b.here.raw b.here.note.event b.rule)
       (earlier_at terms (events_of (notes_of b.before)) b.here.note.event)
       (traced terms (events_of (notes_of b.before)) b.here.note.event b.rule) e.facts
   pub usually_is : e.usually ≡ usual_of e.no

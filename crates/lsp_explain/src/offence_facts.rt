@@ -57,8 +57,9 @@ pub(crate) fn push_offence(
         seen.now terms before h → HasFate terms before h (Offends offence.now.rule tried.entry)
         → (offence_view offence.now).no
         ≡ no_by (heard_events before) h.note.event offence.now.rule
-        → TellsOf terms before h offence.now.rule (ShowsFault seen.now.raw)
-        (string_bytes text.old) (string_bytes text.new)) }
+        → TellsOf terms before h offence.now.rule
+        (ShowsFault seen.now.raw (heard_events before)) (string_bytes text.old)
+        (string_bytes text.new)) }
 {
     push_report(text, offence)?;
     push_event(text, offence, seen.raw, seen.spoken)?;
@@ -114,8 +115,8 @@ fn facts_of(
         (said_at (terms_in past.entry) before event) offence.now.rule
         (made_in (option_map (λ t. t.now) tried.entry))
         → rule_at (terms_in past.entry) before event ≡ Some offence.now.rule
-        → (rests : Rests) → ShowsFault seen.now.raw rests
-        → AreTraced (AreFacts rests (terms_in past.entry)
+        → (rests : Rests) → ShowsFault seen.now.raw before rests
+        → AreTraced (AreFacts rests before (terms_in past.entry)
         (kept_of (terms_in past.entry) before) (raw_view seen.now.raw) event offence.now.rule)
         (earlier_at (terms_in past.entry) before event)
         (traced (terms_in past.entry) before event offence.now.rule) facts) }
@@ -123,14 +124,18 @@ fn facts_of(
     let rule = offence.rule;
     match seen.raw {
         Raw::Broken { rest, .. } => frame_facts(past.held.docs.alloc(), rest),
-        Raw::Content { side, content } => match seen.spoken {
+        Raw::Content {
+            side,
+            content,
+            behind,
+        } => match seen.spoken {
             Some(spoken) => {
                 if rule < rules::FIRST_ON_DOCUMENTS {
                     return message_traced(past, side, spoken, rule);
                 }
                 said_traced(past, place_in(offence), seen.call, rule, tried)
             }
-            None => content_facts(past.held.docs.alloc(), content, rule),
+            None => content_facts(past.held.docs.alloc(), content, behind, rule),
         },
         Raw::Snapshot { .. } => said_traced(past, place_in(offence), seen.call, rule, tried),
     }

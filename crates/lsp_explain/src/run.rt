@@ -103,9 +103,9 @@ impl FirstOffence {
             → FirstStands self.old terms before
             → IsSeen held.now.session held.now.docs held.now.counts seen.now terms before h
             → seen.now.fate ≡ Offends rule tried.entry
-            → Says (explain_run self.old.completeness) terms before h (ShowsFault seen.now.raw)
-            (string_bytes text.old) (string_bytes text.new)
-            (FirstStands self.new terms (before ++ h ∷ [])) flow) }
+            → Says (explain_run self.old.completeness) terms before h
+            (ShowsFault seen.now.raw (heard_events before)) (string_bytes text.old)
+            (string_bytes text.new) (FirstStands self.new terms (before ++ h ∷ [])) flow) }
     {
         let trail = &self.trail;
         let past = Past { held, trail };

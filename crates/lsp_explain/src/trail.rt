@@ -142,7 +142,7 @@ impl Trail {
             → said_at terms (heard_events before) h.note.event ≡ None
             → IsTrail terms self.new (heard_events (before ++ h ∷ []))) }
     {
-        let Raw::Content { side, content } = raw else {
+        let Raw::Content { side, content, .. } = raw else {
             return Ok(());
         };
         let Some(spoken) = spoken else {

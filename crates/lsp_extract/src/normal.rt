@@ -50,7 +50,7 @@ fn write_event<W: Sink>(
         (raw_view raw.now) result }
 {
     match raw {
-        Raw::Content { side, content } => {
+        Raw::Content { side, content, .. } => {
             write_content(writer, head, size, *side, content)?;
             counts.add(who_of(*side));
             Ok(None)

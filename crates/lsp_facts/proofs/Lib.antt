@@ -1,6 +1,7 @@
 pub mod Offers
 pub mod EndLists
 pub mod FrontLines
+pub mod TextEnds
 pub mod LinePlaces
 pub mod MadeChanges
 pub mod AtEdges

@@ -209,8 +209,9 @@ module _ (terms : Terms) (kept : List Event) (rule : ℕ) (earlier : Earlier)
   one_message_facts m true p q = p ∙ sym q
   one_message_facts m false p q = one_call_facts (call_at kept (message m)) p q
 
-  pub one_facts : (rests : Rests) (raw : Raw) (event : Event) → AreFacts rests terms kept raw event rule earlier f
-      → AreFacts rests terms kept raw event rule earlier g → f ≡ g
-  one_facts rests raw (fault side number) p q = p ∙ sym q
-  one_facts rests raw (message m) p q = one_message_facts m (nat_lt rule 601) p q
-  one_facts rests raw (snapshot uri number text) p q = one_call_facts (call_at kept (snapshot uri number text)) p q
+  pub one_facts : (rests : Rests) (before : List Event) (raw : Raw) (event : Event)
+      → AreFacts rests before terms kept raw event rule earlier f
+      → AreFacts rests before terms kept raw event rule earlier g → f ≡ g
+  one_facts rests before raw (fault side number) p q = p ∙ sym q
+  one_facts rests before raw (message m) p q = one_message_facts m (nat_lt rule 601) p q
+  one_facts rests before raw (snapshot uri number text) p q = one_call_facts (call_at kept (snapshot uri number text)) p q

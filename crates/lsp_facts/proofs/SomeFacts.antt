@@ -196,7 +196,7 @@ module _ (terms : Terms) (kept : List Event) (rule : ℕ) (earlier : Earlier) wh
       some_call_facts (call_at kept (message m)) (ap (option_and_then (call_rule terms (calls kept))) broken.says ∙ broken.breaks)
 
   -- there are facts on each event that offends
-  pub some_facts : (rests : Rests) (raw : Raw) (event : Event) → offence terms kept event ≡ Some rule → (facts : List Fact) × AreFacts rests terms kept raw event rule earlier facts
-  some_facts rests raw (fault side number) e = (fault_facts rests rule raw, refl)
-  some_facts rests raw (message m) e = some_message_facts m e (nat_lt rule 601) refl
-  some_facts rests raw (snapshot uri number text) e = some_call_facts (call_at kept (snapshot uri number text)) e
+  pub some_facts : (rests : Rests) (before : List Event) (raw : Raw) (event : Event) → offence terms kept event ≡ Some rule → (facts : List Fact) × AreFacts rests before terms kept raw event rule earlier facts
+  some_facts rests before raw (fault side number) e = (fault_facts rests before rule raw, refl)
+  some_facts rests before raw (message m) e = some_message_facts m e (nat_lt rule 601) refl
+  some_facts rests before raw (snapshot uri number text) e = some_call_facts (call_at kept (snapshot uri number text)) e

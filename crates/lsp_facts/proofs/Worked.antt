@@ -4,3 +4,4 @@ pub mod Contents
 pub mod Flaws
 pub mod Lines
 pub mod Documents
+pub mod Wholes

@@ -127,11 +127,15 @@ pub record HasStray (enc : Encoding) (t : Text) (span : Option Span) : Type 0 wh
 abbrev pub falls_inside : ℕ → Fact
 falls_inside char = line (codes "inside" ∷ quoted_text (char ∷ []) ∷ [])
 
--- the encodings in which a column fits, where there are any
+-- a key and encodings, where there are any
+abbrev pub encodings_fact : List ℕ → List Encoding → List Fact
+encodings_fact key [] = []
+encodings_fact key (enc ∷ encs) =
+    (key ++ flat_map (λ e. spaced (encoding_name (Some e))) (enc ∷ encs) ++ 10 ∷ []) ∷ []
+
+-- the encodings in which a column fits
 abbrev pub fits_fact : List Encoding → List Fact
-fits_fact [] = []
-fits_fact (enc ∷ encs) =
-    (codes "fits" ++ flat_map (λ e. spaced (encoding_name (Some e))) (enc ∷ encs) ++ 10 ∷ []) ∷ []
+fits_fact encs = encodings_fact (codes "fits") encs
 
 -- 605: the line of that position, the character, and the encodings in which it would fit
 pub record IsStray (enc : Encoding) (t : Text) (span : Option Span) (facts : List Fact) : Type 0

@@ -21,7 +21,7 @@ use Rattle.lsp_verdict.specs.Report.{line}
 use Rattle.lsp_verdict.specs.declared.verdict.Who.{Who}
 use Rattle.lsp_verdict.specs.declared.verdict.Who.TheVariants as who
 use Rattle.lsp_verdict.specs.Event.{call_at, calls, Event, message, fault, snapshot, sent_in}
-use Rattle.lsp_verdict.specs.Heard.{Rests, rest_of}
+use Rattle.lsp_verdict.specs.Heard.{Rests, behind_at, rest_of}
 use Rattle.lsp_verdict.specs.Placed as placed
 use Rattle.lsp_verdict.specs.Placed.{Raw, broken, show}
 use Rattle.lsp_frame.specs.Front.{shown_bytes, header_front}
@@ -40,6 +40,7 @@ use Rattle.lsp_facts.specs.Fact.{Fact, in_phase, more_words, spaced, content_mes
 use Rattle.lsp_facts.specs.Members.{Pointer, wrong_result, wrong_member}
 use Rattle.lsp_facts.specs.Grammar.{json_break}
 use Rattle.lsp_facts.specs.DocumentFacts.{AreDocumentFacts}
+use Rattle.lsp_facts.specs.Whole.{whole_facts}
 use Rattle.lsp_facts.specs.declared.earlier.Earlier.{Earlier}
 
 -- ---- bytes that are shown as text
@@ -185,6 +186,11 @@ abbrev pub break_facts : List ℕ → Option ℕ → List Fact
 break_facts content None = []
 break_facts content (Some n) = place_facts content n
 
+-- and how long the content is where with bytes behind it, it is a JSON text
+abbrev pub no_json_facts : List ℕ → List ℕ → List Fact
+no_json_facts content behind =
+    break_facts content (content_break content) ++ whole_facts content behind
+
 -- ---- 209
 
 -- the member that does not have its shape
@@ -192,14 +198,14 @@ abbrev pub wrong_in : List ℕ → Option (List ℕ)
 wrong_in content = option_and_then wrong_member (content_message content)
 
 -- what is wrong with it, as far as the rule does not say it
-abbrev pub reason_facts : ℕ → List ℕ → List Fact
-reason_facts rule content =
-    if rule == rules.CONTENT_NOT_JSON then break_facts content (content_break content)
+abbrev pub reason_facts : ℕ → List ℕ → List ℕ → List Fact
+reason_facts rule content behind =
+    if rule == rules.CONTENT_NOT_JSON then no_json_facts content behind
     else (if rule == rules.BAD_METHOD_PARAMS then member_facts (wrong_in content) else [])
 
--- **a content that breaks this rule**
-abbrev pub content_facts : ℕ → List ℕ → List Fact
-content_facts rule content = front_facts content ++ reason_facts rule content
+-- **a content that breaks this rule**, and the bytes at hand behind it
+abbrev pub content_facts : ℕ → List ℕ → List ℕ → List Fact
+content_facts rule content behind = front_facts content ++ reason_facts rule content behind
 
 -- ---- frames: 101 to 107
 
@@ -232,12 +238,13 @@ log_facts limits log format records (Some (number, code)) =
 
 -- ---- any event that offends
 
--- of a content that breaks this rule, or of the header part that has a fault of the frames; these
--- are the rests of both sides' whole streams
-abbrev pub fault_facts : Rests → ℕ → Raw → List Fact
-fault_facts rests rule (placed.content side bytes) = content_facts rule bytes
-fault_facts rests rule (broken side code) = frame_facts (rest_of rests side)
-fault_facts rests rule (show number uri text) = []
+-- of a content that breaks this rule, which comes after these events, or of the header part that
+-- has a fault of the frames; these are the rests of both sides' whole streams
+abbrev pub fault_facts : Rests → List Event → ℕ → Raw → List Fact
+fault_facts rests before rule (placed.content side bytes) =
+    content_facts rule bytes (behind_at rests before side)
+fault_facts rests before rule (broken side code) = frame_facts (rest_of rests side)
+fault_facts rests before rule (show number uri text) = []
 
 -- a call on a document that breaks this rule after the kept events, of which this is known
 abbrev pub AreCallFacts : Terms → List Event → ℕ → Option Call → Earlier → List Fact → Type 0
@@ -256,12 +263,13 @@ abbrev pub AreMessageFacts : Terms → List Event → Sent → ℕ → Earlier �
 AreMessageFacts terms kept m rule earlier facts =
     AreFactsBy (nat_lt rule rules.FIRST_ON_DOCUMENTS) terms kept m rule earlier facts
 
--- **the facts on an event that offends by this rule after the kept ones before it**, of which this
--- is known
-abbrev pub AreFacts : Rests → Terms → List Event → Raw → Event → ℕ → Earlier → List Fact → Type 0
-AreFacts rests terms kept raw (fault side number) rule earlier facts =
-    facts ≡ fault_facts rests rule raw
-AreFacts rests terms kept raw (message m) rule earlier facts =
+-- **the facts on an event that offends by this rule after these events and the kept ones of them**,
+-- of which this is known
+abbrev pub AreFacts : Rests → List Event → Terms → List Event → Raw → Event → ℕ → Earlier
+    → List Fact → Type 0
+AreFacts rests before terms kept raw (fault side number) rule earlier facts =
+    facts ≡ fault_facts rests before rule raw
+AreFacts rests before terms kept raw (message m) rule earlier facts =
     AreMessageFacts terms kept m rule earlier facts
-AreFacts rests terms kept raw (snapshot uri number text) rule earlier facts =
+AreFacts rests before terms kept raw (snapshot uri number text) rule earlier facts =
     AreCallFacts terms kept rule (call_at kept (snapshot uri number text)) earlier facts

@@ -8,3 +8,4 @@ pub mod TwoTexts
 pub mod EndsApart
 pub mod FrameFronts
 pub mod DocumentFacts
+pub mod Whole

@@ -8,6 +8,7 @@ use crate::facts::Facts;
 use crate::json_text::json_break;
 use crate::members::wrong_member;
 use crate::messages::{front_facts, push_member, shown, text_front};
+use crate::whole::push_whole;
 use lsp_rpc::{Memory, Result, RpcFault, read};
 use lsp_types::rules;
 use std::alloc::Global;
@@ -15,25 +16,27 @@ use std::alloc::Global;
 /// How many bytes are shown before the place where a content breaks, and how many after it.
 const AROUND_BYTES: usize = 32;
 
-/// What is said about a content that breaks this rule, 201 to 209: how it begins, as far as that is
-/// UTF-8; under 201 where it is no longer the front of a JSON text, and what is before and after
-/// that place; under 209 the member of its params that does not have its shape.
+/// What is said about a content that breaks this rule, 201 to 209, and these bytes at hand behind
+/// it: how it begins, as far as that is UTF-8; under 201 where it is no longer the front of a JSON
+/// text, what is before and after that place, and how long the JSON text is that ends behind the
+/// content; under 209 the member of its params that does not have its shape.
 ///
 /// # Errors
 /// `Memory` where memory was refused.
-pub fn content_facts(alloc: Global, content: &[u8], rule: u16) -> Result<Facts>
-    ensures { IfOk result (λ facts. facts ≡ spec.content_facts rule content.now) }
+pub fn content_facts(alloc: Global, content: &[u8], behind: &[u8], rule: u16) -> Result<Facts>
+    ensures { IfOk result (λ facts. facts ≡ spec.content_facts rule content.now behind.now) }
 {
     let mut facts = front_facts(alloc, content)?;
-    push_reason(&mut facts, content, rule)?;
+    push_reason(&mut facts, content, behind, rule)?;
     Ok(facts)
 }
 
-fn push_reason(facts: &mut Facts, content: &[u8], rule: u16) -> Result<()>
-    ensures { OnOk result (facts.new ≡ facts.old ++ spec.reason_facts rule content.now) }
+fn push_reason(facts: &mut Facts, content: &[u8], behind: &[u8], rule: u16) -> Result<()>
+    ensures { OnOk result (facts.new ≡ facts.old
+        ++ spec.reason_facts rule content.now behind.now) }
 {
     if rule == rules::CONTENT_NOT_JSON {
-        return push_break(facts, content);
+        return push_no_json(facts, content, behind);
     }
     if rule == rules::BAD_METHOD_PARAMS {
         let found = member_in(facts.alloc(), content)?;
@@ -56,6 +59,14 @@ fn member_in(alloc: Global, content: &[u8]) -> Result<Option<String>>
 }
 
 // ---- 201
+
+/// Where a content is no JSON text, and how long it is with some of the bytes behind it.
+fn push_no_json(facts: &mut Facts, content: &[u8], behind: &[u8]) -> Result<()>
+    ensures { OnOk result (facts.new ≡ facts.old ++ spec.no_json_facts content.now behind.now) }
+{
+    push_break(facts, content)?;
+    push_whole(facts, content, behind)
+}
 
 /// Where a content is no longer the front of a JSON text, and what is around that place.
 fn push_break(facts: &mut Facts, content: &[u8]) -> Result<()>

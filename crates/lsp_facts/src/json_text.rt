@@ -1,6 +1,7 @@
-//! Where a text is no longer JSON (RFC 8259).
-ghost use Rattle.std.specs.Prelude.{◌≡◌, ◌≤◌, ◌<◌, IfOk, IfSome, OnOk, length};
+//! Where a text is no longer JSON, and where a JSON text ends (RFC 8259).
+ghost use Rattle.std.specs.Prelude.{◌≡◌, ◌≤◌, ◌<◌, ◌++◌, ℕ, IfOk, IfSome, List, OnOk, length};
 ghost use Rattle.lsp_facts.specs.Grammar as spec;
+ghost use Rattle.lsp_facts.specs.Whole as whole;
 
 use crate::grammar::Class::{self, Byte, CToF, D, Digit};
 use crate::grammar::{Around, Escape, Gap, Move, Number, Place, Row};
@@ -249,4 +250,56 @@ pub(crate) fn json_break(alloc: Global, text: &[u8]) -> Result<Option<usize>>
     } else {
         Ok(Some(text.len()))
     }
+}
+
+// ---- the end of a text
+
+/// How a walk over some bytes of a text ends.
+#[derive(Clone, Copy)]
+enum Walk {
+    /// After this many of them, the text may end.
+    Ends(usize),
+    /// One cannot stand there.
+    Breaks,
+    /// It goes on at this place.
+    GoesOn(Place),
+}
+
+/// Walks over the next bytes of a text, from this place on, up to where it may end.
+fn walk_over(opened: &mut Vec<Around>, from: Place, bytes: &[u8]) -> Result<Walk>
+    ensures ends { IfOk result (λ walk. (n : ℕ) (more : List ℕ)
+        → whole.end_from n from opened.old.items (bytes.now ++ more)
+        ≡ whole.end_at n walk (length bytes.now) opened.new.items more) }
+    ensures some { IfOk result (λ walk. IfSome (whole.ended walk) (λ n. 0 < n)) }
+    ensures within { IfOk result (λ walk. IfSome (whole.ended walk) (λ n. n ≤ length bytes.now)) }
+{
+    let mut place = from;
+    for (number, byte) in bytes.iter().enumerate() {
+        let Some(by) = move_in(place, opened.as_slice(), *byte) else {
+            return Ok(Walk::Breaks);
+        };
+        place = make_move(opened, by)?;
+        if is_whole(place, opened.as_slice()) {
+            return Ok(Walk::Ends(number + 1));
+        }
+    }
+    Ok(Walk::GoesOn(place))
+}
+
+/// How many of the bytes behind a content its JSON text has, if it ends there.
+///
+/// # Errors
+/// `Memory` where memory was refused.
+pub(crate) fn more_of_text(alloc: Global, content: &[u8], behind: &[u8]) -> Result<Option<usize>>
+    ensures more { IfOk result (λ more. more ≡ whole.missing content.now behind.now) }
+    ensures within { IfOk result (λ more. IfSome more (λ n. n ≤ length behind.now)) }
+{
+    let mut opened = Vec::new(alloc);
+    let Walk::GoesOn(place) = walk_over(&mut opened, Place::Gap(Gap::Value), content)? else {
+        return Ok(None);
+    };
+    let Walk::Ends(more) = walk_over(&mut opened, place, behind)? else {
+        return Ok(None);
+    };
+    Ok(Some(more))
 }

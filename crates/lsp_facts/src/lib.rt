@@ -36,6 +36,7 @@ mod shapes;
 mod text_facts;
 mod two_texts;
 mod waiting;
+mod whole;
 
 pub use blame::{usual, usual_inside};
 pub use contents::content_facts;

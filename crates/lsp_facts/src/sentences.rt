@@ -10,7 +10,7 @@ use lsp_rpc::{Result, push_quoted};
 pub(crate) type Row = (&'static str, &'static str, &'static str);
 
 /// The first row whose lines are there has the sentence.
-pub(crate) const ROWS: [Row; 26] = [
+pub(crate) const ROWS: [Row; 28] = [
     (
         "fits utf-8\n",
         "encoding utf-16\n",
@@ -96,6 +96,16 @@ pub(crate) const ROWS: [Row; 26] = [
         "suspects 1\n",
         "equal ",
         "Either one message is wrong, or one change was never sent.",
+    ),
+    (
+        "counts ",
+        "",
+        "The header seems to count characters; it has to count bytes.",
+    ),
+    (
+        "whole ",
+        "",
+        "The header says fewer bytes than the content has.",
     ),
     ("same ", "", "The editor sent the same changes twice."),
     (

@@ -1,7 +1,7 @@
 //! What is said about texts of documents and changes of them.
 
 ghost use Rattle.std.specs.Prelude.{◌≡◌, ◌<◌, ◌^◌, ◌+◌, [], ◌∷◌, ◌++◌, Some, IfOk, OnOk};
-ghost use Rattle.std.specs.Prelude.{codes, string_bytes};
+ghost use Rattle.std.specs.Prelude.{string_bytes};
 ghost use Rattle.std.specs.List.{flat_map};
 ghost use Rattle.std.specs.Str.{chars};
 ghost use Rattle.std.specs.Fmt.{signed_decimal};
@@ -98,10 +98,17 @@ impl Facts {
     pub fn fitting(&mut self, names: &[Encoding]) -> Result<()>
         ensures { OnOk result (self.new ≡ self.old ++ spec.fits_fact names.now) }
     {
+        self.encodings("fits", names)
+    }
+
+    /// A key and encodings, where there are any.
+    pub(crate) fn encodings(&mut self, key: &str, names: &[Encoding]) -> Result<()>
+        ensures { OnOk result (self.new ≡ self.old ++ spec.encodings_fact key.now names.now) }
+    {
         if names.is_empty() {
             return Ok(());
         }
-        let words = fits_words(self.alloc(), names)?;
+        let words = encoding_words(self.alloc(), key, names)?;
         self.push_end(words)
     }
 
@@ -161,12 +168,12 @@ impl Facts {
     }
 }
 
-/// The encodings in which a position lies at an edge, after their key.
-fn fits_words(alloc: Global, names: &[Encoding]) -> Result<String>
-    ensures { IfOk result (λ words. string_bytes words ≡ codes "fits"
+/// Encodings after their key.
+fn encoding_words(alloc: Global, key: &str, names: &[Encoding]) -> Result<String>
+    ensures { IfOk result (λ words. string_bytes words ≡ key.now
         ++ flat_map (λ e. spaced (encoding_name (Some e))) names.now) }
 {
-    let mut words = String::from_str(alloc, "fits")?;
+    let mut words = String::from_str(alloc, key)?;
     for encoding in names {
         push_encoding(&mut words, *encoding)?;
     }

@@ -6,7 +6,7 @@ pub(crate) type Row = (&'static str, &'static str);
 
 /// The rows of the lines of a report: of a verdict, of a log that was not judged, of details, of
 /// notes, and of events.
-pub(crate) const ROWS: [Row; 110] = [
+pub(crate) const ROWS: [Row; 112] = [
     ("yes", "yes"),
     ("yes", "yes remark=nothing-compared"),
     ("read fault", "read fault"),
@@ -51,6 +51,7 @@ pub(crate) const ROWS: [Row; 110] = [
     ("found", "found text=*"),
     ("inside", "inside text=*"),
     ("breaks", "breaks count=*"),
+    ("whole", "whole count=*"),
     ("byte", "byte count=*"),
     ("record", "record count=*"),
     ("length", "length count=*"),
@@ -74,6 +75,7 @@ pub(crate) const ROWS: [Row; 110] = [
     ("sync", "sync kind=*"),
     ("at", "at line=* column=*"),
     ("fits", "fits names=.."),
+    ("counts", "counts names=.."),
     ("line-ends", "line-ends option --ignore-line-ends"),
     ("ends", "ends kind=* from=* to=*"),
     ("ends", "ends kind=*"),

@@ -1,5 +1,6 @@
 -- The steps of an account whose lines are made into objects.
-use Rattle.std.proofs.Common.{◌≡◌, ◌∙◌, ℕ, Bool, true, false, List, [], ◌++◌, ap, append-nil, refl, sym}
+use Rattle.std.specs.Prelude.{replicate, slice_get, suc, unwrap_or, zero}
+use Rattle.std.proofs.Common.{◌≡◌, ◌∙◌, ℕ, Some, Bool, true, false, List, [], ◌++◌, ap, append-nil, refl, sym}
 use Rattle.lsp_docs.specs.Documents.{Terms}
 use Rattle.lsp_frame.specs.Front.{header_front}
 use Rattle.lsp_json.specs.Rows.{json_lines}
@@ -10,7 +11,9 @@ use Rattle.lsp_replay.specs.declared.seen.Flow.{Flow}
 use Rattle.lsp_replay.specs.declared.seen.Flow.TheVariants.{GoOn, Stop}
 use Rattle.lsp_types.specs.declared.side.Side.{Side}
 use Rattle.lsp_types.specs.declared.side.Side.TheVariants.{Editor, Server}
-use Rattle.lsp_verdict.specs.Heard.{Heard, Rests, rest_of}
+use Rattle.lsp_verdict.specs.Event.{Event}
+use Rattle.lsp_verdict.specs.Heard.{Heard, Rests, behind_at, rest_of}
+use Rattle.lsp_verdict.specs.Verdict.{count_of, is_of}
 use Rattle.lsp_verdict.specs.declared.outcome.Outcome.{Outcome}
 use Rattle.lsp_verdict.specs.declared.raw.Raw as code
 use Rattle.lsp_verdict.specs.declared.raw.Raw.TheVariants.{Content, Broken, Snapshot}
@@ -24,20 +27,40 @@ nothing_added old shown none =
     sym (ap (λ (w : List ℕ). old ++ json_lines w) none ∙ ap (λ (w : List ℕ). old ++ w) no_objects
     ∙ append-nil old)
 
--- each side has these bytes left
-abbrev alike : List ℕ → Rests
-alike rest = record { editor = rest; server = rest }
+-- each side has these bytes left, and these at hand behind each of so many frames
+abbrev alike : List ℕ → ℕ → Rests
+alike rest count = record {
+  editor = rest;
+  server = rest;
+  editor_behind = replicate count rest;
+  server_behind = replicate count rest;
+}
 
 alike_shows : (side : Side) (rest : List ℕ)
-    → header_front rest ≡ header_front (rest_of (alike rest) side)
+    → header_front rest ≡ header_front (rest_of (alike rest 0) side)
 alike_shows Editor rest = refl
 alike_shows Server rest = refl
 
+last_of_all : (rest : List ℕ) (n : ℕ) → slice_get (replicate (suc n) rest) n ≡ Some rest
+last_of_all rest zero = refl
+last_of_all rest (suc n) = last_of_all rest n
+
+alike_behind : (side : Side) (before : List Event) (rest : List ℕ)
+    → rest ≡ behind_at (alike rest (suc (count_of (is_of side) before))) before side
+alike_behind Editor before rest =
+    sym (ap (λ o. unwrap_or o []) (last_of_all rest (count_of (is_of Editor) before)))
+alike_behind Server before rest =
+    sym (ap (λ o. unwrap_or o []) (last_of_all rest (count_of (is_of Server) before)))
+
 -- some log shows each fault
-pub some_rests : (raw : code.Raw) → (rests : Rests) × ShowsFault raw rests
-some_rests (Content side bytes) = (alike [], tt)
-some_rests (Broken side rule rest) = (alike rest.now, alike_shows side rest.now)
-some_rests (Snapshot version uri text) = (alike [], tt)
+pub some_rests : (raw : code.Raw) (before : List Event)
+    → (rests : Rests) × ShowsFault raw before rests
+some_rests (Content side bytes behind) before = (
+  alike behind.now (suc (count_of (is_of side) before)),
+  alike_behind side before behind.now,
+)
+some_rests (Broken side rule rest) before = (alike rest.now 0, alike_shows side rest.now)
+some_rests (Snapshot version uri text) before = (alike [] 0, tt)
 
 -- it stops where the run does
 goes_on : (run : Run) (terms : Terms) (before : List Heard) (h : Heard) (Stands More : Type 0)

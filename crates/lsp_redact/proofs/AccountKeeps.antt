@@ -119,6 +119,6 @@ ends_judged raw side r o v given raw_is o_is view_is =
 pub ends_done : (raw : lent.Raw) (o : Option Verdict)
     → ((side : _) (rule : _) (rest : _) → raw ≡ raws.Broken side rule rest → ⊥)
     → EndsBy (raw_view raw) o Done
-ends_done (raws.Content side bytes) o not = refl
+ends_done (raws.Content side bytes behind) o not = refl
 ends_done (raws.Broken side rule rest) o not = absurd (not side rule rest refl)
 ends_done (raws.Snapshot version uri text) o not = refl

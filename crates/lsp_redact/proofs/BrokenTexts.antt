@@ -58,10 +58,11 @@ never_both side bytes rule f r text is (inr (same, bad)) kind not =
 
 -- of what is no content nothing is
 pub broken_none : (most : ℕ) (raw : code.Raw) (event : Event) (rule : ℕ) (text : List ℕ)
-    → ((side : _) (bytes : _) → raw ≡ raws.Content side bytes → ⊥) → placed.Reads (raw_view raw) event
+    → ((side : _) (bytes behind : _) → raw ≡ raws.Content side bytes behind → ⊥)
+    → placed.Reads (raw_view raw) event
     → IsBroken most (raw_view raw) event rule text text
-broken_none most (raws.Content side bytes) event rule text not reads =
-    absurd (not side bytes refl)
+broken_none most (raws.Content side bytes behind) event rule text not reads =
+    absurd (not side bytes behind refl)
 broken_none most (raws.Broken side r rest) event rule text not reads =
     subst (λ (e : Event). IsBroken most (broken side r) e rule text text) (sym reads)
     ([], refl, sym (append-nil text))

@@ -17,7 +17,6 @@ use Rattle.lsp_rpc.specs.Message.{Message}
 use Rattle.lsp_rpc.specs.Params.{IsRefused}
 use Rattle.lsp_types.specs.declared.rules.TheConstants as rules
 use Rattle.lsp_types.specs.declared.side.Side.{Side}
-use Rattle.lsp_types.specs.declared.side.Side.TheVariants.{Editor, Server}
 use Rattle.lsp_replay.specs.Run.{EndsAfter, IsJudged, IsTold, SaysAll, StopsIn, Tail}
 use Rattle.lsp_replay.specs.Telling.{no_of, rule_of}
 use Rattle.lsp_replay.proofs.FirstEvents.{some_heard, some_rests}
@@ -26,7 +25,7 @@ use Rattle.lsp_verdict.specs.Given.{verdict_view}
 use Rattle.lsp_verdict.specs.Heard.{Heard, Rests, heard_events, notes_of, raws_of}
 use Rattle.lsp_verdict.specs.Offences.{IsNoted}
 use Rattle.lsp_verdict.specs.Outcome.{is_rest, log_terms}
-use Rattle.lsp_verdict.specs.Placed.{Placed, Raw, Reads, broken, content, joined, show}
+use Rattle.lsp_verdict.specs.Placed.{Placed, Raw, Reads, broken, content, show}
 use Rattle.lsp_verdict.specs.Verdict.{Verdict, bad_log, bad_log_of, belongs_to, count_of, no, no_by}
 use Rattle.lsp_verdict.specs.Verdict.{no_next, rest_of}
 use Rattle.lsp_verdict.specs.declared.outcome.Outcome.{Outcome}
@@ -37,7 +36,7 @@ use Rattle.lsp_verdict.specs.declared.verdict.Who.{Who}
 use Rattle.lsp_verdict.specs.declared.verdict.Who.TheVariants as who
 use Rattle.lsp_verdict.proofs.Below.{one_log, one_message, some_log}
 use Rattle.lsp_verdict.proofs.Offences.Surveying.{one_notes}
-use Rattle.lsp_verdict.proofs.Outcomes.{one_rest}
+use Rattle.lsp_verdict.proofs.Behind.{one_rests}
 use Rattle.lsp_verdict.proofs.PlacedLemmas.{one_placed}
 use Rattle.lsp_verdict.proofs.Sessions.{some_placed}
 use Rattle.lsp_verdict.proofs.Verdicts.{IsRefusal}
@@ -511,12 +510,7 @@ one_parts limits sizes log x y (rs, p) (us, q) =
     one_notes (raws_of y.heard) (notes_of x.heard) (notes_of y.heard)
     (subst (λ (w : List Raw). AllZip IsNoted w (notes_of x.heard)) raws p.session.noted)
     q.session.noted in
-    let editor : x.tail.rests.editor ≡ y.tail.rests.editor =
-    one_rest limits (joined Editor rs) (joined Editor us) x.tail.rests.editor y.tail.rests.editor
-    (ap (joined Editor) same.1) p.rests.editor q.rests.editor in
-    let server : x.tail.rests.server ≡ y.tail.rests.server =
-    one_rest limits (joined Server rs) (joined Server us) x.tail.rests.server y.tail.rests.server
-    (ap (joined Server) same.1) p.rests.server q.rests.server in
+    let rests = one_rests limits rs us x.tail.rests y.tail.rests same.1 p.rests q.rests in
     let place : x.tail.place ≡ y.tail.place =
     p.place ∙ (λ i. place_of (same.0 i) (same.1 i)) ∙ sym q.place in
     let line : x.tail.line ≡ y.tail.line =
@@ -529,7 +523,7 @@ one_parts limits sizes log x y (rs, p) (us, q) =
         fault = same.2 i;
         place = place i;
         line = line i;
-        rests = record { editor = editor i; server = server i };
+        rests = rests i;
       };
     }
 

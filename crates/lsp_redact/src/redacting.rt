@@ -127,7 +127,7 @@ fn push_broken(text: &mut String, alloc: Global, raw: Raw<'_>, rule: u16, most: 
         → IsFaultOf rule event → IsBroken (max most 1) (raw_view raw.entry) event rule
         (string_bytes text.old) (string_bytes text.new)) }
 {
-    let Raw::Content { side, content } = raw else {
+    let Raw::Content { side, content, .. } = raw else {
         return Ok(());
     };
     let broken = broken_text(alloc, content, rule)?;

@@ -20,6 +20,7 @@ use Rattle.lsp_verdict.specs.Outcome.{log_terms}
 use Rattle.lsp_verdict.specs.Placed.{Raw, Placed, joined}
 use Rattle.lsp_verdict.specs.Runs.{OfRead}
 use Rattle.lsp_verdict.specs.declared.outcome.Outcome.{Outcome}
+use Rattle.lsp_verdict.proofs.Behind.{some_behind}
 use Rattle.lsp_verdict.proofs.Below.{some_stream}
 use Rattle.lsp_verdict.proofs.ExactCounts.{raws_within}
 use Rattle.lsp_verdict.proofs.Offences.Surveying.{some_note}
@@ -88,11 +89,20 @@ pub some_rests : (limits : Bounds) (records : List Record)
     → (rests : Rests) × AreRests limits records rests
 some_rests limits records =
     let editor = some_stream limits (joined Editor records) in
-    let server = some_stream limits (joined Server records) in (
-      record { editor = editor.1; server = server.1 },
+    let server = some_stream limits (joined Server records) in
+    let by_editor = some_behind limits Editor records in
+    let by_server = some_behind limits Server records in (
+      record {
+        editor = editor.1;
+        server = server.1;
+        editor_behind = by_editor.0;
+        server_behind = by_server.0;
+      },
       record {
         editor = (editor.0, editor.2, editor.3);
         server = (server.0, server.2, server.3);
+        editor_behind = by_editor.1;
+        server_behind = by_server.1;
       },
     )
 

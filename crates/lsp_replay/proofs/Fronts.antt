@@ -7,7 +7,6 @@ use Rattle.lsp_frame.specs.Bounds.{Bounds, IsInRange}
 use Rattle.lsp_frame.specs.Decoder as decoder
 use Rattle.lsp_frame.specs.Frame.{IsStream, Frames}
 use Rattle.lsp_frame.specs.Front.{header_front}
-use Rattle.lsp_frame.proofs.Frames.{same_frame}
 use Rattle.lsp_log.specs.Log.{Record, chunk, shown}
 use Rattle.lsp_session.specs.Sent.{same_side}
 use Rattle.lsp_types.specs.declared.side.Side.{Side}
@@ -17,7 +16,7 @@ use Rattle.lsp_verdict.proofs.Below.{faulty_more, one_stream, shown_stays}
 use Rattle.lsp_verdict.proofs.Sessions.Joined.{is_own}
 use Rattle.lsp_replay.specs.Streams.{State, Stands, decoder_of, IsDue, ends_at, ends_inside}
 use Rattle.lsp_replay.proofs.Owning.{AreBroken, side_broken, given_own}
-use Rattle.lsp_replay.proofs.Giving.{none_due}
+use Rattle.lsp_replay.proofs.Giving.{due_rest}
 use Rattle.lsp_replay.proofs.Streaming.{own_due}
 
 -- ---- the bytes of a side after its last whole frame, where its frames have a fault
@@ -35,7 +34,7 @@ front_known limits sizes d bytes more rest rule b has =
     sym (shown_stays limits sizes d.rest (b.more ++ more) rule b.breaks)
     ∙ ap header_front (sym one.rest)
 
-joined-append : (side : Side) (rs more : List Record)
+pub joined-append : (side : Side) (rs more : List Record)
     → joined side (rs ++ more) ≡ joined side rs ++ joined side more
 joined-append side [] more = refl
 joined-append side (chunk by b ∷ rs) more = by_side (same_side side by) (joined-append side rs more)
@@ -100,28 +99,6 @@ stream_faults side [] rule = refl
 stream_faults side (c ∷ contents) rule = stream_faults side contents rule
 
 -- ---- the rest
-
-one_rest : (limits : Bounds) (bytes : List ℕ) (contents : List (List ℕ)) (r s : List ℕ)
-    → Frames limits bytes contents r → Frames limits bytes contents s → r ≡ s
-one_rest limits bytes [] r s a b = sym a ∙ b
-one_rest limits bytes (c ∷ contents) r s (after, begins, frames) (other, starts, others) =
-    one_rest limits after contents r s frames
-    (subst (λ (w : List ℕ). Frames limits w contents s)
-    (sym (same_frame limits bytes c c after other begins starts).1) others)
-
-module _ (side : Side) (d : decoder.State) (bytes : List ℕ) (h : IsDue side d bytes []) where
-  due_rest : d.fault ≡ None → IsStream d.limits bytes h.given d.rest None
-  due_rest whole =
-      let none = none_due side h.left h.breaks
-      (h.are ∙ ap (λ f. map (content side) h.left ++ new_fault side f h.breaks) whole) in
-      let stream = subst (λ (f : Option ℕ). IsStream d.limits bytes h.given h.rest f) none.1
-      (subst (λ (w : List (List ℕ)). IsStream d.limits bytes w h.rest h.breaks)
-      (ap (λ w. h.given ++ w) none.0 ∙ append-nil h.given) h.stream) in
-      let held : h.stands.rest ≡ d.rest =
-      subst (λ (f : Option ℕ). decoder.RestAt f d h.stands.rest) whole h.stands.held in
-      subst (λ (w : List ℕ). IsStream d.limits bytes h.given w None)
-      (one_rest d.limits bytes h.given h.rest h.stands.rest stream.frames h.stands.frames
-      ∙ held) stream
 
 module _ (limits : Bounds) (s : State) (records : List Record) (given : List Raw)
     (h : Stands limits s records given []) where

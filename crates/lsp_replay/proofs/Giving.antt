@@ -7,7 +7,7 @@ use Rattle.lsp_frame.specs.Bounds.{Bounds, IsInRange}
 use Rattle.lsp_frame.specs.Decoder as decoder
 use Rattle.lsp_frame.specs.Decoder.{State}
 use Rattle.lsp_frame.specs.Frame.{Breaks, Frames, IsStream}
-use Rattle.lsp_frame.proofs.Frames.{breaks_no_frame, breaks_more}
+use Rattle.lsp_frame.proofs.Frames.{breaks_no_frame, breaks_more, same_frame}
 use Rattle.lsp_replay.specs.Streams.{IsDue}
 use Rattle.lsp_types.specs.declared.side.Side.{Side}
 use Rattle.lsp_verdict.specs.Placed.{Raw, content, broken, new_fault, Brings}
@@ -145,6 +145,29 @@ pub none_due : (side : Side) (left : List (List ℕ)) (breaks : Option ℕ)
 none_due side [] None e = (refl, refl)
 none_due side [] (Some rule) e = absurd cc
 none_due side (c ∷ left) breaks e = absurd cc
+
+one_rest : (limits : Bounds) (bytes : List ℕ) (contents : List (List ℕ)) (r s : List ℕ)
+    → Frames limits bytes contents r → Frames limits bytes contents s → r ≡ s
+one_rest limits bytes [] r s a b = sym a ∙ b
+one_rest limits bytes (c ∷ contents) r s (after, begins, frames) (other, starts, others) =
+    one_rest limits after contents r s frames
+    (subst (λ (w : List ℕ). Frames limits w contents s)
+    (sym (same_frame limits bytes c c after other begins starts).1) others)
+
+-- where nothing is due and there is no fault, the decoder holds the rest
+module _ (side : Side) (d : State) (bytes : List ℕ) (h : IsDue side d bytes []) where
+  pub due_rest : d.fault ≡ None → IsStream d.limits bytes h.given d.rest None
+  due_rest whole =
+      let none = none_due side h.left h.breaks
+      (h.are ∙ ap (λ f. map (content side) h.left ++ new_fault side f h.breaks) whole) in
+      let stream = subst (λ (f : Option ℕ). IsStream d.limits bytes h.given h.rest f) none.1
+      (subst (λ (w : List (List ℕ)). IsStream d.limits bytes w h.rest h.breaks)
+      (ap (λ w. h.given ++ w) none.0 ∙ append-nil h.given) h.stream) in
+      let held : h.stands.rest ≡ d.rest =
+      subst (λ (f : Option ℕ). decoder.RestAt f d h.stands.rest) whole h.stands.held in
+      subst (λ (w : List ℕ). IsStream d.limits bytes h.given w None)
+      (one_rest d.limits bytes h.given h.rest h.stands.rest stream.frames h.stands.frames
+      ∙ held) stream
 
 module _ (limits : Bounds) (side : Side) (d new : State) (sent more : List ℕ)
     (own : d.limits ≡ limits) (same_d : new.limits ≡ d.limits) (same_fault : new.fault ≡ d.fault)

@@ -51,9 +51,10 @@ unread_for side bytes terms events Memory is = tt
 
 -- an event that is no content is no message
 pub silent : (raw : code.Raw)
-    → ((side : Side) (bytes : _) → raw ≡ lent.Content side bytes → ⊥) → (event : Event)
+    → ((side : Side) (bytes behind : _) → raw ≡ lent.Content side bytes behind → ⊥) → (event : Event)
     → Reads (raw_view raw) event → (sent : Sent) → event ≡ message sent → ⊥
-silent (lent.Content side bytes) not event reads sent is = not side bytes refl
+silent (lent.Content side bytes behind) not event reads sent is =
+    not side bytes behind refl
 silent (lent.Broken side rule rest) not event reads sent is =
     let same = sym reads ∙ is in absurd (cc same)
 silent (lent.Snapshot number uri text) not event reads sent is =

@@ -13,6 +13,7 @@ pub mod FrameRules
 pub mod Fronts
 pub mod SideEnds
 pub mod FirstEvents
+pub mod Behind
 pub mod Passing
 pub mod LastEvents
 pub mod Seeing

@@ -10,7 +10,6 @@ use Rattle.lsp_frame.specs.declared.format.Format.{Format}
 use Rattle.lsp_log.specs.Log.{Record}
 use Rattle.lsp_log.specs.Place.{place_of, found_behind}
 use Rattle.lsp_log.specs.declared.fault.LogCode.{LogCode}
-use Rattle.lsp_types.specs.declared.side.Side.TheVariants.{Editor, Server}
 use Rattle.lsp_replay.specs.Run.{ClosesSo, EndsAfter, IsJudged, IsPassed, IsTold, Run, SaysAll}
 use Rattle.lsp_replay.specs.Run.{StopsIn, Tail}
 use Rattle.lsp_replay.specs.RunLaws.{EndAlike, HasOneOutput, IsSameEnd, SaysOn}
@@ -18,13 +17,13 @@ use Rattle.lsp_replay.proofs.FirstEvents.{some_heard, some_rests}
 use Rattle.lsp_verdict.specs.Heard.{Heard, Rests, notes_of, raws_of}
 use Rattle.lsp_verdict.specs.Offences.{IsNoted}
 use Rattle.lsp_verdict.specs.Outcome.{log_terms}
-use Rattle.lsp_verdict.specs.Placed.{Placed, joined}
+use Rattle.lsp_verdict.specs.Placed.{Placed}
 use Rattle.lsp_verdict.specs.Verdict.{Verdict}
 use Rattle.lsp_verdict.specs.declared.outcome.Outcome.{Outcome}
 use Rattle.lsp_verdict.specs.declared.outcome.Outcome.TheVariants.{Judged}
+use Rattle.lsp_verdict.proofs.Behind.{one_rests}
 use Rattle.lsp_verdict.proofs.Below.{one_log, some_log}
 use Rattle.lsp_verdict.proofs.Offences.Surveying.{one_notes}
-use Rattle.lsp_verdict.proofs.Outcomes.{one_rest}
 use Rattle.lsp_verdict.proofs.PlacedLemmas.{one_placed}
 use Rattle.lsp_verdict.proofs.Sessions.{some_placed}
 
@@ -129,15 +128,9 @@ one_told limits sizes log x y p q =
     let notes : notes_of x.heard ≡ notes_of y.heard =
     one_notes (raws_of y.heard) (notes_of x.heard) (notes_of y.heard)
     (subst (λ w. AllZip IsNoted w (notes_of x.heard)) raws p.session.noted) q.session.noted in
-    let editor : x.tail.rests.editor ≡ y.tail.rests.editor =
-    one_rest limits (joined Editor x.records) (joined Editor y.records) x.tail.rests.editor
-    y.tail.rests.editor (ap (joined Editor) same.1) p.rests.editor q.rests.editor in
-    let server : x.tail.rests.server ≡ y.tail.rests.server =
-    one_rest limits (joined Server x.records) (joined Server y.records) x.tail.rests.server
-    y.tail.rests.server (ap (joined Server) same.1) p.rests.server q.rests.server in
     let hears = same_heard x.heard y.heard raws notes in
-    let rests : x.tail.rests ≡ y.tail.rests =
-    λ i. record { editor = editor i; server = server i } in
+    let rests = one_rests limits x.records y.records x.tail.rests y.tail.rests same.1 p.rests
+    q.rests in
     let tails : x.tail ≡ y.tail =
     tail_is limits log x p
     ∙ (λ i. tail_of limits log (same.0 i) (same.1 i) (same.2 i) (rests i))

@@ -115,13 +115,12 @@ module _ (limits : Bounds) (s : State) (records : List Record) (given due : List
       by_turn (Some turn.Snapshot) sides shows =
           ap (filter (is_own side)) shows ∙ shown_own side s.snapshot
 
-  -- **of the events given, those of a side are contents, and after them the fault that its decoder
-  -- gave**
-  pub given_own : (side : Side)
-      → (contents : List (List ℕ))
-      × (filter (is_own side) given
-      ≡ map (content side) contents ++ new_fault side None (decoder_of side s).fault)
-  given_own side =
+  -- of the events given, those of a side are the contents that its decoder gave, and after them the
+  -- fault that it did
+  pub given_are : (side : Side)
+      → filter (is_own side) given
+      ≡ map (content side) (h.sides side).given ++ new_fault side None (decoder_of side s).fault
+  given_are side =
       let d = decoder_of side s in
       let is = h.sides side in
       let stream = subst (λ (b : Bounds). IsStream b (joined side records) (is.given ++ is.left)
@@ -131,11 +130,17 @@ module _ (limits : Bounds) (s : State) (records : List Record) (given due : List
       let whole : filter (is_own side) given ++ due_of side s.turn due
       ≡ map (content side) (is.given ++ is.left) ++ new_fault side None is.breaks =
       ap (λ w. filter (is_own side) given ++ w) (sym (own_left side))
-      ∙ sym (filter-append (is_own side) given due) ∙ all in (
-        is.given,
-        given_is side d (joined side records) (filter (is_own side) given)
-            (due_of side s.turn due) is whole,
-      )
+      ∙ sym (filter-append (is_own side) given due) ∙ all in
+      given_is side d (joined side records) (filter (is_own side) given) (due_of side s.turn due) is
+      whole
+
+  -- **of the events given, those of a side are contents, and after them the fault that its decoder
+  -- gave**
+  pub given_own : (side : Side)
+      → (contents : List (List ℕ))
+      × (filter (is_own side) given
+      ≡ map (content side) contents ++ new_fault side None (decoder_of side s).fault)
+  given_own side = ((h.sides side).given, given_are side)
 
   -- a fault that was given last is its decoder's
   pub given_fault : (side : Side) (rule : ℕ) (before : List Raw)

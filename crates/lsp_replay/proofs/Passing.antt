@@ -19,12 +19,13 @@ use Rattle.lsp_types.specs.declared.side.Side.TheVariants.{Editor, Server}
 use Rattle.lsp_replay.specs.LogEvents.{HasGiven, NextIs, Opens, Reads}
 use Rattle.lsp_replay.specs.Run.{DueAt, PartPassed, Passes, Steps, HasSaid, IsPassed, RanOut, Run}
 use Rattle.lsp_replay.specs.Run.{SaysAll, WantsAt}
-use Rattle.lsp_replay.specs.Streams.{LendsRest}
+use Rattle.lsp_replay.specs.Streams.{EndsInLast, LendsRest}
 use Rattle.lsp_replay.specs.Telling.{Comes, DueOf, ShowsFault, Stood}
 use Rattle.lsp_replay.specs.declared.log_events.LogEvents.{LogEvents}
 use Rattle.lsp_replay.specs.declared.log_events.Next.TheVariants as next
 use Rattle.lsp_replay.specs.declared.seen.Flow.{Flow}
 use Rattle.lsp_replay.specs.declared.seen.Flow.TheVariants.{GoOn, Stop}
+use Rattle.lsp_replay.proofs.Behind.{behind_shown}
 use Rattle.lsp_replay.proofs.FirstEvents.{AreNoted, RestsBehind, few_read, join_heard, ran_at}
 use Rattle.lsp_replay.proofs.FirstEvents.{ran_idle, raws-push, rests_before, said_read}
 use Rattle.lsp_replay.proofs.FirstEvents.{says_more, stops_given}
@@ -32,7 +33,7 @@ use Rattle.lsp_replay.proofs.Fronts.{front_shown}
 use Rattle.lsp_replay.proofs.Owning.{given_fault}
 use Rattle.lsp_replay.proofs.PassEnds.{Boxed}
 use Rattle.lsp_replay.proofs.Pulling.{reads_failures, reads_given}
-use Rattle.lsp_verdict.specs.Heard.{Heard, Rests, notes_of, raws_of, rest_of}
+use Rattle.lsp_verdict.specs.Heard.{Heard, Rests, heard_events, notes_of, raws_of, rest_of}
 use Rattle.lsp_verdict.specs.Given.{raw_view}
 use Rattle.lsp_verdict.specs.Offences.{Noted}
 use Rattle.lsp_verdict.specs.Outcome.{HasRest, log_terms}
@@ -107,18 +108,23 @@ cut_at run limits start now old mid new out said wrote stopped some due failures
 
 -- ---- the rest of a side
 
--- with a fault of the frames the header part that has it is lent
+-- with a content the bytes at hand behind it are lent, with a fault of the frames the header part
+-- that has it
 pub fault_shown : (limits : Bounds) (format : Option Format) (e : LogEvents) (start now : Told)
-    (records : List Record) (given due : List Raw) (raw : code.Raw)
-    → Reads limits format e start now records (given ++ raw_view raw ∷ []) due
-    → LendsRest e.streams raw → (rests : Rests) → RestsBehind limits records rests
-    → ShowsFault raw rests
-fault_shown limits format e start now records given due (lent.Content side bytes) h lends rests
-    behind = tt
-fault_shown limits format e start now records given due (lent.Snapshot version uri text) h lends
-    rests behind = tt
-fault_shown limits format e start now records given due (lent.Broken side rule rest) h lends rests
-    (more, are) =
+    (records : List Record) (before : List Heard) (due : List Raw) (raw : code.Raw)
+    → AreNoted before
+    → Reads limits format e start now records (raws_of before ++ raw_view raw ∷ []) due
+    → LendsRest e.streams raw → EndsInLast e.streams records (raw_view raw) → (rests : Rests)
+    → RestsBehind limits records rests → ShowsFault raw (heard_events before) rests
+fault_shown limits format e start now records before due (lent.Content side bytes behind) noted h
+    lends ends rests (more, are) =
+    lends ∙ sym (behind_shown limits e.streams records before side bytes.now due h.stands noted ends
+    more rests are)
+fault_shown limits format e start now records before due (lent.Snapshot version uri text) noted h
+    lends ends rests behind = tt
+fault_shown limits format e start now records before due (lent.Broken side rule rest) noted h lends
+    ends rests (more, are) =
+    let given = raws_of before in
     let some = given_fault limits e.streams records (given ++ broken side rule ∷ []) due h.stands
     side rule given refl in
     let shows = front_shown limits e.streams records (given ++ broken side rule ∷ []) due side
@@ -218,7 +224,7 @@ module _ (Asked : Type 0) (run_of : Asked → Run) (asked : Asked)
     abbrev gave : (more : List Record) × (later : List Raw)
         × Reads limits p.format log start last (p.records ++ more)
         (raws_of p.heard ++ raw_view raw ∷ []) later
-        × LendsRest log.streams raw
+        × (LendsRest log.streams raw × EndsInLast log.streams (p.records ++ more) (raw_view raw))
     gave = told limits p.format start p.records (raws_of p.heard) p.due p.reads
 
     abbrev front : List Record
@@ -256,9 +262,10 @@ module _ (Asked : Type 0) (run_of : Asked → Run) (asked : Asked)
       noted = (some_note (raw_view raw)).1;
     }
 
-    shown : (rests : Rests) → RestsBehind limits front rests → ShowsFault raw rests
-    shown = fault_shown limits p.format log start last front (raws_of p.heard) gave.1 raw gave.2
-        gave.3
+    shown : (rests : Rests) → RestsBehind limits front rests
+        → ShowsFault raw (heard_events p.heard) rests
+    shown = fault_shown limits p.format log start last front p.heard gave.1 raw p.noted gave.2
+        gave.3.0 gave.3.1
 
     module _ (Later : Terms → List Heard → Type 0) (new_m : session.State) (new_d : docs.State)
         (new_c : Counts) (end : Told) where
@@ -267,8 +274,8 @@ module _ (Asked : Type 0) (run_of : Asked → Run) (asked : Asked)
 
       -- what is due for it
       abbrev Due : Flow → List ℕ → Type 0
-      Due flow said = DueOf run terms p.heard here (ShowsFault raw) (Later terms on) new_m new_d new_c
-          flow said
+      Due flow said = DueOf run terms p.heard here (ShowsFault raw (heard_events p.heard))
+          (Later terms on) new_m new_d new_c flow said
 
       said_on : (said : List ℕ) → Due GoOn said → (rests : Rests) → RestsBehind limits front rests
           → SaysAll run terms rests [] on (p.out ++ said)
@@ -339,15 +346,15 @@ module _ (Asked : Type 0) (run_of : Asked → Run) (asked : Asked)
           (t : Terms) (before : List Heard) (h : Heard)
           → Comes (raw_view raw) t m d c before h (Stands t before)
           → Steps new end (WantsAt (run_of own) t before h)
-          (DueOf (run_of own) t before h (ShowsFault raw)
+          (DueOf (run_of own) t before h (ShowsFault raw (heard_events before))
           (Later t (before ++ h ∷ [])) new_m new_d new_c) result
 
       steps_of : (own : Asked) (result : Result Flow RunFault) → own ≡ asked
           → TellsNext own result → Steps new end Wants Due result
       steps_of own result same tells =
           subst (λ (a : Asked). Steps new end (WantsAt (run_of a) terms p.heard here)
-          (DueOf (run_of a) terms p.heard here (ShowsFault raw) (Later terms on) new_m new_d new_c)
-          result) same (tells terms p.heard here comes)
+          (DueOf (run_of a) terms p.heard here (ShowsFault raw (heard_events p.heard))
+          (Later terms on) new_m new_d new_c) result) same (tells terms p.heard here comes)
 
       pub goes_on : (own : Asked) → own ≡ asked → TellsNext own (Ok GoOn)
           → IsPassing run Later limits log new_m new_d new_c start last old end

@@ -24,7 +24,7 @@ use Rattle.lsp_verdict.proofs.Outcomes.{placed_front}
 use Rattle.lsp_verdict.proofs.RunsJudged.{read_map}
 use Rattle.lsp_verdict.proofs.Sessions.{some_placed}
 use Rattle.lsp_replay.specs.Streams.{State, StepsBy, StepsSide, StepsAt, Steps, left_of, left_in}
-use Rattle.lsp_replay.specs.Streams.{unbroken, IsRaw, Stands}
+use Rattle.lsp_replay.specs.Streams.{EndsInLast, unbroken, IsRaw, Stands}
 use Rattle.lsp_replay.specs.declared.streams.Due.{Due}
 use Rattle.lsp_replay.specs.declared.streams.Due.TheVariants as next
 use Rattle.lsp_replay.specs.declared.streams.PendingEvents.{PendingEvents}
@@ -330,9 +330,10 @@ module _ (limits : Bounds) (format : Option Format) (start now : Told) (records 
       let one = stepped limits records given due old.streams new.streams (Some step) steps
       h.stands in
       let past : List Raw = given ++ one.0 ∷ [] in
-      let all = none_more (λ rs. (left : List Raw) × Reads limits format new start now rs past left)
-      records (one.2.0, moved past one.2.0 one.2.2) in
-      (one.0, one.1, (all.0, all.1.0, all.1.1))
+      let all = none_more (λ rs. (left : List Raw) × Reads limits format new start now rs past left
+      × EndsInLast new.streams rs one.0)
+      records (one.2.0, moved past one.2.0 one.2.2, one.2.3) in
+      (one.0, one.1, (all.0, all.1.0, all.1.1, all.1.2))
 
   -- all were given
   pub none_left : Steps old.streams new.streams None
@@ -404,11 +405,11 @@ pub finds_more : (limits : Bounds) (format : Option Format) (e : LogEvents) (sta
     → Finds limits format e start now (records ++ more) given result
     → Finds limits format e start now records given result
 finds_more limits format e start now records more given (Ok (found.Event step))
-    (raw, is, (rest, later, reads)) =
+    (raw, is, (rest, later, reads, ends)) =
     let all = more_then (λ rs. (left : List Raw)
-    × Reads limits format e start now rs (given ++ raw ∷ []) left) records more
-    (rest, (later, reads)) in
-    (raw, is, (all.0, all.1.0, all.1.1))
+    × Reads limits format e start now rs (given ++ raw ∷ []) left × EndsInLast e.streams rs raw)
+    records more (rest, (later, reads, ends)) in
+    (raw, is, (all.0, all.1.0, all.1.1, all.1.2))
 finds_more limits format e start now records more given (Ok (found.End end)) (rest, ends) =
     more_then (λ rs. Ended limits format e start now rs given end) records more (rest, ends)
 finds_more limits format e start now records more given (Err fault) (rest, broke) =
@@ -450,7 +451,9 @@ pub lent_event : (limits : Bounds) (format : Option Format) (e : LogEvents) (sta
     → Finds limits format e start now records given (Ok (found.Event due))
     → (more : List Record) × (later : List Raw)
     × Reads limits format e start now (records ++ more) (given ++ raw ∷ []) later
+    × EndsInLast e.streams (records ++ more) raw
 lent_event limits format e start now records given due raw is finds =
     subst (λ (w : Raw). (more : List Record) × (later : List Raw)
-    × Reads limits format e start now (records ++ more) (given ++ w ∷ []) later)
+    × Reads limits format e start now (records ++ more) (given ++ w ∷ []) later
+    × EndsInLast e.streams (records ++ more) w)
     (one_raw e.streams due finds.0 raw finds.1 is) finds.2

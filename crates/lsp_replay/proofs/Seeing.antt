@@ -173,10 +173,12 @@ module _ {from to : code.Raw} (same : from ≡ to) {terms : Terms} {before : Lis
       subst (λ (r : code.Raw). Comes (raw_view r) terms m d c before h Stands) same
 
   pub saw_of : {run : Run} {old new : List ℕ} {m : session.State} {d : docs.State} {c : Counts}
-      {flow : Flow} → Saw run terms before h (ShowsFault from) old new Stands m d c flow
-      → Saw run terms before h (ShowsFault to) old new Stands m d c flow
+      {flow : Flow}
+      → Saw run terms before h (ShowsFault from (heard_events before)) old new Stands m d c flow
+      → Saw run terms before h (ShowsFault to (heard_events before)) old new Stands m d c flow
   saw_of {run} {old} {new} {m} {d} {c} {flow} =
-      subst (λ (r : code.Raw). Saw run terms before h (ShowsFault r) old new Stands m d c flow) same
+      subst (λ (r : code.Raw).
+      Saw run terms before h (ShowsFault r (heard_events before)) old new Stands m d c flow) same
 
 -- ---- a fault: a content that is no message, or of the frames
 

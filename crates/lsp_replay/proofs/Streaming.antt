@@ -1,20 +1,24 @@
 -- The streams of both sides, with one event more given or one record more pushed.
 use Rattle.std.proofs.Common.{◌≡◌, ℕ, ℤ, List, [], ◌∷◌, ◌++◌, length, Option, Some, None, IsSome}
-use Rattle.std.proofs.Common.{Bool, true, false, refl, sym, ap, subst, ◌∙◌}
+use Rattle.std.proofs.Common.{Bool, true, false, refl, sym, ap, subst, ◌∙◌, ◌⊎◌, inl, inr, ◌<◌, ◌≤◌}
+use Rattle.std.proofs.Common.{append_assoc, arith, length-append}
+use Rattle.std.proofs.lemmas.Bool.{cases_lt}
 use Rattle.std.specs.Prelude.{if◌then◌else◌, string_bytes}
 use Rattle.lsp_frame.specs.Bounds.{Bounds, IsInRange}
 use Rattle.lsp_frame.specs.Buffer.{last_of}
 use Rattle.lsp_frame.specs.Decoder as decoder
+use Rattle.lsp_frame.specs.Frame.{Begins}
 use Rattle.lsp_log.specs.Log.{Record, chunk, shown}
 use Rattle.lsp_replay.specs.Streams as streams
-use Rattle.lsp_replay.specs.Streams.{State, IsDue, IsRaw, Stands, StepsBy, StepsSide}
+use Rattle.lsp_replay.specs.Streams.{State, EndsIn, EndsInLast, HoldsLast, HoldsLastOf, IsDue}
+use Rattle.lsp_replay.specs.Streams.{IsLastOf, IsRaw, Stands, StepsBy, StepsSide}
 use Rattle.lsp_replay.specs.Streams.{StepsAt, Steps, decoder_of, due_of, put}
 use Rattle.lsp_replay.specs.declared.streams.Due.{Due}
 use Rattle.lsp_replay.specs.declared.streams.Due.TheVariants as next
 use Rattle.lsp_replay.specs.declared.streams.Snapshot.{Snapshot}
 use Rattle.lsp_replay.specs.declared.streams.PendingEvents.{PendingEvents}
 use Rattle.lsp_replay.specs.declared.streams.PendingEvents.TheVariants as turn
-use Rattle.lsp_replay.proofs.Giving.{over, none_next, content_next, fault_next, pushed_due}
+use Rattle.lsp_replay.proofs.Giving.{over, none_next, content_next, due_rest, fault_next, pushed_due}
 use Rattle.lsp_session.specs.Sent.{other_side, same_side}
 use Rattle.lsp_types.specs.declared.side.Side.{Side}
 use Rattle.lsp_types.specs.declared.side.Side.TheVariants.{Editor, Server}
@@ -71,6 +75,90 @@ side_gives side d new bytes due given steps h = by_fault d.fault refl given step
         )
     by_fault None is (Some next.Snapshot) step = absurd step
 
+-- ---- what of the last record is held
+
+-- of two ways to cut bytes, the one that cuts later
+cut_later : (xs ys us vs : List ℕ) → xs ++ ys ≡ us ++ vs → length xs ≤ length us
+    → (mid : List ℕ) × (us ≡ xs ++ mid) × (ys ≡ mid ++ vs)
+cut_later [] ys us vs same less = (us, refl, same)
+cut_later (x ∷ xs) ys [] vs same less = absurd (omega (arith, less))
+cut_later (x ∷ xs) ys (u ∷ us) vs same less =
+    let whole : x ∷ (xs ++ ys) ≡ u ∷ (us ++ vs) = same in
+    let first : x ≡ u = cc in
+    let tail : xs ++ ys ≡ us ++ vs = cc in
+    let rest = cut_later xs ys us vs tail (omega (arith, less)) in
+    (rest.0, (λ i. (sym first i) ∷ rest.1 i), rest.2)
+
+-- the next frame ends in it
+ends_in : (d new : decoder.State) (bytes last : List ℕ) → decoder.GivesFrame d new bytes
+    → HoldsLast d last → EndsIn new last
+ends_in d new bytes last gives (inr (front, is, some)) = (
+  front ++ gives.frame,
+  is ∙ ap (λ w. front ++ w) gives.rest ∙ sym (append_assoc front gives.frame new.rest),
+  omega (arith, some, length-append front gives.frame),
+)
+ends_in d new bytes last gives (inl (front, is, none)) =
+    elim (cases_lt (length front) (length gives.frame)) [
+      | inl less ↦
+          let cut = cut_later front last gives.frame new.rest (sym is ∙ gives.rest)
+          (omega (arith, less)) in
+          (cut.0, cut.2, omega (arith, less, ap length cut.1, length-append front cut.0))
+      | inr more ↦
+          let cut = cut_later gives.frame new.rest front last (sym gives.rest ∙ is) more in
+          absurd (none bytes cut.0 (gives.frame, cut.1, gives.is_frame))
+    ]
+
+-- where a content comes next, it ends in the last record
+abbrev EndsDue : Side → decoder.State → List Record → Option Due → Type 0
+EndsDue side d records (Some (next.Content by len)) = (d.fault ≡ None)
+    × ((last : List ℕ) × IsLastOf side records last × EndsIn d last)
+EndsDue side d records (Some (next.Broken by rule)) = Unit {0}
+EndsDue side d records (Some next.Snapshot) = Unit {0}
+EndsDue side d records None = Unit {0}
+
+side_holds : (side : Side) (d new : decoder.State) (records : List Record) (given : Option Due)
+    → StepsSide side d new given → HoldsLastOf side d records
+    → HoldsLastOf side new records × EndsDue side new records given
+side_holds side d new records given steps holds = by_fault d.fault refl given steps
+  where
+    still : new ≡ d → HoldsLastOf side new records
+    still same = subst (λ (w : decoder.State). HoldsLastOf side w records) (sym same) holds
+
+    by_fault : (f : Option ℕ) → d.fault ≡ f → (o : Option Due) → StepsBy f side d new o
+        → HoldsLastOf side new records × EndsDue side new records o
+    by_fault (Some rule) is o (none, same) =
+        (still same, subst (EndsDue side new records) (sym none) tt)
+    by_fault None is None step = (still step.step.same, tt)
+    by_fault None is (Some (next.Content by len)) (own, within, step) =
+        let gives : decoder.GivesFrame d new (last_of new.kept len) = step.step in
+        let held = holds is in
+        let ends = ends_in d new (last_of new.kept len) held.0 gives held.2 in (
+          λ none. (held.0, held.1, inr ends),
+          (ap (λ (w : decoder.State). w.fault) gives.same ∙ is, (held.0, held.1, ends)),
+        )
+    by_fault None is (Some (next.Broken by rule)) (own, step) =
+        let gives : decoder.GivesFault d new rule = step.step in (
+          λ none.
+              let two : (let o : Option ℕ = Some rule in o) ≡ None =
+              sym (ap (λ (w : decoder.State). w.fault) gives.same) ∙ none in
+              absurd cc,
+          tt,
+        )
+    by_fault None is (Some next.Snapshot) step = absurd step
+
+-- ---- one side's event is one of the streams
+
+ends_of_side : (side : Side) (s : State) (e : decoder.State) (records : List Record) (given : Due)
+    (raw : Raw) → e ≡ decoder_of side s → SideRaw side e given raw
+    → EndsDue side e records (Some given) → EndsInLast s records raw
+ends_of_side side s e records (next.Content by len) raw same (own, is) ends =
+    subst (EndsInLast s records) (sym is)
+    (subst (λ (d : decoder.State). (d.fault ≡ None)
+    × ((last : List ℕ) × IsLastOf side records last × EndsIn d last)) same ends)
+ends_of_side side s e records (next.Broken by rule) raw same (own, is) ends =
+    subst (EndsInLast s records) (sym is) tt
+ends_of_side side s e records next.Snapshot raw same is ends = absurd is
+
 raw_of_side : (s : State) (side : Side) (given : Due) (raw : Raw)
     → SideRaw side (decoder_of side s) given raw → IsRaw s given raw
 raw_of_side s side (next.Content by len) raw (own, is) =
@@ -86,7 +174,7 @@ StepGives limits new records given due None = (due ≡ []) × Stands limits new 
 StepGives limits new records given due (Some step) =
     (raw : Raw) × IsRaw new step raw
     × ((later : List Raw) × (due ≡ raw ∷ later)
-    × Stands limits new records (given ++ raw ∷ []) later)
+    × Stands limits new records (given ++ raw ∷ []) later × EndsInLast new records raw)
 
 put_own : (side : Side) (e : decoder.State) (s : State) → e ≡ decoder_of side (put side e s)
 put_own Editor e s = refl
@@ -98,13 +186,16 @@ stood : (limits : Bounds) (side : Side) (s : State) (e : decoder.State) (records
     → ((by : Side) → (decoder_of by s).limits ≡ limits) → e.limits ≡ limits
     → IsDue side e (joined side records) left
     → IsDue (other_side side) (decoder_of (other_side side) s) (joined (other_side side) records) []
+    → HoldsLastOf side e records
     → Stands limits (put side e (record s { turn = Some (turn.Bytes side) })) records past left
-stood limits side s e records past left range placed own same due other = record {
+stood limits side s e records past left range placed own same due other holds = record {
   range = range;
   placed = placed;
   own = limits_are side same;
   sides = dues side due other;
   shows = tt;
+  holds = subst (λ (d : decoder.State). HoldsLastOf side d records)
+      (put_own side e (record s { turn = Some (turn.Bytes side) })) holds;
 }
   where
     limits_are : (side : Side) → e.limits ≡ limits
@@ -128,24 +219,27 @@ module _ (limits : Bounds) (records : List Record) (given due : List Raw) where
       → StepsSide side (decoder_of side s) e o → Stands limits s records given due
       → IsDue side (decoder_of side s) (joined side records) due
       → IsDue (other_side side) (decoder_of (other_side side) s) (joined (other_side side) records)
-      [] → StepGives limits (put side e (record s { turn = Some (turn.Bytes side) })) records given
+      [] → HoldsLastOf side (decoder_of side s) records
+      → StepGives limits (put side e (record s { turn = Some (turn.Bytes side) })) records given
       due o
-  side_stepped side s e o steps h is_due other =
+  side_stepped side s e o steps h is_due other was =
       let one = side_gives side (decoder_of side s) e (joined side records) due o steps is_due in
-      by_next o one.0 (one.1 ∙ h.own side)
+      let held = side_holds side (decoder_of side s) e records o steps was in
+      by_next o one.0 (one.1 ∙ h.own side) held.0 held.1
     where
       new : State
       new = put side e (record s { turn = Some (turn.Bytes side) })
 
       by_next : (o : Option Due) → SideGives side e (joined side records) due o
-          → e.limits ≡ limits → StepGives limits new records given due o
-      by_next None (none, ends) same = (
+          → e.limits ≡ limits → HoldsLastOf side e records → EndsDue side e records o
+          → StepGives limits new records given due o
+      by_next None (none, ends) same holds last = (
         none,
         stood limits side s e records given [] h.range
             (subst (λ (w : List Raw). Placed limits records (given ++ w)) none h.placed)
-            h.own same ends other,
+            h.own same ends other holds,
       )
-      by_next (Some step) (raw, is, (later, first, left)) same = (
+      by_next (Some step) (raw, is, (later, first, left)) same holds last = (
         raw,
         raw_of_side new side step raw
             (subst (λ (d : decoder.State). SideRaw side d step raw) (put_own side e s) is),
@@ -153,7 +247,9 @@ module _ (limits : Bounds) (records : List Record) (given due : List Raw) where
           later,
           first,
           stood limits side s e records (given ++ raw ∷ []) later h.range
-              (placed_next limits records given due later raw first h.placed) h.own same left other,
+              (placed_next limits records given due later raw first h.placed) h.own same left other
+              holds,
+          ends_of_side side new e records step raw (put_own side e s) is last,
         ),
       )
 
@@ -179,7 +275,9 @@ module _ (limits : Bounds) (records : List Record) (given due : List Raw) where
                 own = h.own;
                 sides = h.sides;
                 shows = refl;
+                holds = tt;
               },
+              tt,
             ),
           )
 
@@ -196,6 +294,7 @@ module _ (limits : Bounds) (records : List Record) (given due : List Raw) where
       own = h.own;
       sides = h.sides;
       shows = refl;
+      holds = tt;
     },
   )
 
@@ -223,12 +322,12 @@ module _ (limits : Bounds) (records : List Record) (given due : List Raw) where
           along (put Editor new.editor (record old { turn = Some (turn.Bytes Editor) })) o
           (same ∙ ap (λ (t : Option PendingEvents). put Editor new.editor (record old { turn = t }))
           own) (side_stepped Editor (record old { turn = Some (turn.Bytes Editor) }) new.editor o
-          steps h (h.sides Editor) (h.sides Server))
+          steps h (h.sides Editor) (h.sides Server) h.holds)
       by_turn (Some (turn.Bytes Server)) own (steps, same) h =
           along (put Server new.server (record old { turn = Some (turn.Bytes Server) })) o
           (same ∙ ap (λ (t : Option PendingEvents). put Server new.server (record old { turn = t }))
           own) (side_stepped Server (record old { turn = Some (turn.Bytes Server) }) new.server o
-          steps h (h.sides Server) (h.sides Editor))
+          steps h (h.sides Server) (h.sides Editor) h.holds)
       by_turn (Some turn.Snapshot) own (is, same, held) h =
           subst (StepGives limits new records given due) (sym is)
           (along (record old {
@@ -250,7 +349,7 @@ pub lent : (limits : Bounds) (new : State) (records : List Record) (given due : 
 lent limits new records given due step raw is gives =
     subst (λ (w : Raw). (later : List Raw) × (due ≡ w ∷ later)
     × Stands limits new records (given ++ w ∷ []) later)
-    (one_raw new step gives.0 raw gives.1 is) gives.2
+    (one_raw new step gives.0 raw gives.1 is) (gives.2.0, gives.2.1, gives.2.2)
 
 -- ---- one more record
 
@@ -277,13 +376,14 @@ module _ (limits : Bounds) (records : List Record) (given : List Raw) where
 
   pub side_pushed : (side : Side) (s : State) (e : decoder.State) (bytes : List ℕ)
       → e.limits ≡ (decoder_of side s).limits → e.fault ≡ (decoder_of side s).fault
+      → ((decoder_of side s).fault ≡ None → e.rest ≡ (decoder_of side s).rest ++ bytes)
       → ((sent : List ℕ) (contents : List (List ℕ))
       → decoder.StandsFor (decoder_of side s) sent contents
       → decoder.StandsFor e (sent ++ bytes) contents)
       → Stands limits s records given []
       → (due : List Raw) × Stands limits (put side e (record s { turn = Some (turn.Bytes side) }))
       (records ++ chunk side bytes ∷ []) given due
-  side_pushed side s e bytes same fault stands h =
+  side_pushed side s e bytes same fault behind stands h =
       let p = pushed_due limits side (decoder_of side s) e (joined side records) bytes (h.own side)
       same fault (own_due side s h) stands in (
         p.0,
@@ -294,8 +394,18 @@ module _ (limits : Bounds) (records : List Record) (given : List Raw) where
             h.own (same ∙ h.own side)
             (subst (λ (w : List ℕ). IsDue side e w p.0) (sym (joined_own side records bytes)) p.2)
             (subst (λ (w : List ℕ). IsDue (other_side side) (decoder_of (other_side side) s) w [])
-            (sym (joined_other side bytes)) (own_due (other_side side) s h)),
+            (sym (joined_other side bytes)) (own_due (other_side side) s h))
+            (λ none.
+            let whole = sym fault ∙ none in
+            (bytes, (records, refl), inl ((decoder_of side s).rest, behind whole, none_begun whole))),
       )
+    where
+      -- what was held begins with no frame
+      none_begun : (decoder_of side s).fault ≡ None
+          → (content after : List ℕ) → Begins e.limits (decoder_of side s).rest content after → ⊥
+      none_begun whole = subst (λ (b : Bounds).
+          (content after : List ℕ) → Begins b (decoder_of side s).rest content after → ⊥) (sym same)
+          (due_rest side (decoder_of side s) (joined side records) (own_due side s h) whole).no_more
 
   pub shown_pushed : (s : State) (x : Snapshot) (number : ℤ) → x.version ≡ number
       → Stands limits s records given []
@@ -316,6 +426,7 @@ module _ (limits : Bounds) (records : List Record) (given : List Raw) where
           sides = λ side. subst (λ (w : List ℕ). IsDue side (decoder_of side s) w [])
               (sym (joined_shown side records number uri text)) (own_due side s h);
           shows = refl;
+          holds = tt;
         },
       )
 
@@ -325,6 +436,12 @@ pushed_fault s piece = by_fault s.fault
     by_fault : (o : Option ℕ) → (decoder.taken_at o s (length piece) piece).fault ≡ s.fault
     by_fault None = refl
     by_fault (Some rule) = refl
+
+pub pushed_rest : (s new : decoder.State) (piece : List ℕ)
+    → decoder.FitsIn new (decoder.pushed s piece) → s.fault ≡ None → new.rest ≡ s.rest ++ piece
+pushed_rest s new piece fits whole =
+    ap (λ (w : decoder.State). w.rest) fits.same
+    ∙ ap (λ (o : Option ℕ). (decoder.taken_at o s (length piece) piece).rest) whole
 
 pub pushed_limits : (s : decoder.State) (piece : List ℕ)
     → (decoder.pushed s piece).limits ≡ s.limits

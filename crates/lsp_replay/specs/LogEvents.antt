@@ -11,7 +11,7 @@ use Rattle.lsp_log.specs.Reader.{ahead}
 use Rattle.lsp_log.specs.Records.{record_view}
 use Rattle.lsp_log.specs.declared.fault.LogCode.{LogCode}
 use Rattle.lsp_replay.specs.Streams as streams
-use Rattle.lsp_replay.specs.Streams.{IsHeld, IsRaw, LendsRest, Stands}
+use Rattle.lsp_replay.specs.Streams.{EndsInLast, IsHeld, IsRaw, LendsRest, Stands}
 use Rattle.lsp_verdict.specs.Given.{raw_view}
 use Rattle.lsp_replay.specs.declared.log_events.Entry.{Entry}
 use Rattle.lsp_replay.specs.declared.log_events.Entry.TheVariants as entry
@@ -100,14 +100,14 @@ Opens limits start now e =
 
 -- ---- the next event
 
--- one more event of these records, or of more, with the rest of its side where its frames have a
--- fault; or the end of the log after them
+-- one more event of these records, or of more, with the rest of its side where it is a content or
+-- its frames have a fault; or the end of the log after them
 abbrev pub Gives : Bounds → Option Format → LogEvents → Told → Told → List Record → List Raw
     → Result Next RunFault → Type 0
 Gives limits format e start now records given (Ok (next.Event raw)) =
     (more : List Record) × (later : List Raw)
     × Reads limits format e start now (records ++ more) (given ++ raw_view raw ∷ []) later
-    × LendsRest e.streams raw
+    × (LendsRest e.streams raw × EndsInLast e.streams (records ++ more) (raw_view raw))
 Gives limits format e start now records given (Ok (next.End end)) =
     (more : List Record) × Ended limits format e start now (records ++ more) given end
 Gives limits format e start now records given (Err fault) =
@@ -132,7 +132,8 @@ abbrev pub Finds : Bounds → Option Format → LogEvents → Told → Told → 
 Finds limits format e start now records given (Ok (step.Event due)) =
     (raw : Raw) × IsRaw e.streams due raw
     × ((more : List Record) × (later : List Raw)
-    × Reads limits format e start now (records ++ more) (given ++ raw ∷ []) later)
+    × Reads limits format e start now (records ++ more) (given ++ raw ∷ []) later
+    × EndsInLast e.streams (records ++ more) raw)
 Finds limits format e start now records given (Ok (step.End end)) =
     (more : List Record) × Ended limits format e start now (records ++ more) given end
 Finds limits format e start now records given (Err fault) =

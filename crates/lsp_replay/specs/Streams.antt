@@ -1,11 +1,11 @@
 -- For which records, and which events of them, the streams of both sides stand.
-use Rattle.std.specs.Prelude.{◌≡◌, ℕ, ◌+◌, ◌<◌, ◌≤◌, List, [], ◌∷◌, ◌++◌, length, map, string_bytes}
+use Rattle.std.specs.Prelude.{◌≡◌, ◌⊎◌, ℕ, ◌+◌, ◌<◌, ◌≤◌, List, [], ◌∷◌, ◌++◌, length, map, string_bytes}
 use Rattle.std.specs.Prelude.{Bool, false, if◌then◌else◌, Option, Some, None, IsSome, IfSome, Ok, Err}
 use Rattle.lsp_frame.specs.Bounds.{Bounds, IsInRange}
 use Rattle.lsp_frame.specs.Buffer.{last_of}
 use Rattle.lsp_frame.specs.Decoder as decoder
-use Rattle.lsp_frame.specs.Frame.{IsStream}
-use Rattle.lsp_log.specs.Log.{Record}
+use Rattle.lsp_frame.specs.Frame.{Begins, IsStream}
+use Rattle.lsp_log.specs.Log.{Record, chunk}
 use Rattle.lsp_session.specs.Sent.{same_side}
 use Rattle.lsp_replay.specs.declared.streams.Due.{Due}
 use Rattle.lsp_replay.specs.declared.streams.Due.TheVariants as due
@@ -68,9 +68,10 @@ IsRaw s (due.Content side len) raw = raw ≡ content side (last_of (decoder_of s
 IsRaw s (due.Broken side rule) raw = raw ≡ broken side rule
 IsRaw s due.Snapshot raw = shown s.snapshot ≡ raw ∷ []
 
--- with a fault of the frames the bytes of its side after the last whole one are lent
+-- with a content, and with a fault of the frames, the bytes of its side after the last whole frame
+-- are lent
 abbrev pub LendsRest : State → code.Raw → Type 0
-LendsRest s (lent.Content side bytes) = Unit {0}
+LendsRest s (lent.Content side bytes behind) = behind.now ≡ (decoder_of side s).rest
 LendsRest s (lent.Broken side rule rest) = rest.now ≡ (decoder_of side s).rest
 LendsRest s (lent.Snapshot version uri text) = Unit {0}
 
@@ -114,6 +115,41 @@ pub record IsDue (side : Side) (d : decoder.State) (bytes : List ℕ) (due : Lis
   pub stream : IsStream d.limits bytes (given ++ left) rest breaks
   pub are : due ≡ map (content side) left ++ new_fault side d.fault breaks
 
+-- ---- the last record
+
+-- a frame ended in these bytes, and the decoder holds those of them that follow it
+abbrev pub EndsIn : decoder.State → List ℕ → Type 0
+EndsIn d bytes = (front : List ℕ) × (bytes ≡ front ++ d.rest) × (0 < length front)
+
+-- it holds all of them, behind bytes that begin with no frame; or a frame ended in them
+abbrev pub HoldsLast : decoder.State → List ℕ → Type 0
+HoldsLast d bytes =
+    ((front : List ℕ) × (d.rest ≡ front ++ bytes)
+    × ((content after : List ℕ) → Begins d.limits front content after → ⊥))
+    ⊎ EndsIn d bytes
+
+-- the last record has these bytes of this side
+abbrev pub IsLastOf : Side → List Record → List ℕ → Type 0
+IsLastOf side records bytes = (before : List Record) × (records ≡ before ++ chunk side bytes ∷ [])
+
+-- a side whose bytes the last record has holds them, as long as its frames have no fault
+abbrev pub HoldsLastOf : Side → decoder.State → List Record → Type 0
+HoldsLastOf side d records = d.fault ≡ None
+    → (bytes : List ℕ) × IsLastOf side records bytes × HoldsLast d bytes
+
+abbrev pub HoldsRecord : Option PendingEvents → State → List Record → Type 0
+HoldsRecord (Some (turn.Bytes side)) s records = HoldsLastOf side (decoder_of side s) records
+HoldsRecord t s records = Unit {0}
+
+-- **a content that was given last ended in the last record**, and what of that follows it is held
+abbrev pub EndsInLast : State → List Record → Raw → Type 0
+EndsInLast s records (content side bytes) = ((decoder_of side s).fault ≡ None)
+    × ((last : List ℕ) × IsLastOf side records last × EndsIn (decoder_of side s) last)
+EndsInLast s records (broken side rule) = Unit {0}
+EndsInLast s records (show number uri text) = Unit {0}
+
+-- ---- what is due
+
 -- of the events that are due, those of a side
 abbrev pub due_of : Side → Option PendingEvents → List Raw → List Raw
 due_of side (Some (turn.Bytes by)) due = if same_side side by then due else []
@@ -135,6 +171,7 @@ pub record Stands (limits : Bounds) (s : State) (records : List Record)
   pub sides : (side : Side)
       → IsDue side (decoder_of side s) (joined side records) (due_of side s.turn due)
   pub shows : ShowsDue s.turn s.snapshot due
+  pub holds : HoldsRecord s.turn s records
 
 -- ---- the next event
 

@@ -30,7 +30,7 @@ use Rattle.lsp_replay.specs.declared.seen.Flow.TheVariants.{GoOn, Stop}
 use Rattle.lsp_replay.specs.declared.seen.Seen.{Seen}
 use Rattle.lsp_verdict.specs.Event.{call_at, calls, Event, message}
 use Rattle.lsp_verdict.specs.Given.{AreCounts, raw_view}
-use Rattle.lsp_verdict.specs.Heard.{Heard, Rests, heard_events, rest_of}
+use Rattle.lsp_verdict.specs.Heard.{Heard, Rests, behind_at, heard_events, rest_of}
 use Rattle.lsp_verdict.specs.Offences.{IsNoted, has_broken, kept_of, rule_at}
 use Rattle.lsp_verdict.specs.Outcome.{is_rest}
 use Rattle.lsp_verdict.specs.Placed.{Raw}
@@ -105,12 +105,14 @@ pub record IsSeen (messages : session.State) (documents : docs.State) (counts : 
   pub says : option_map call_view s.call ≡ call_at (kept_before terms before) h.note.event
   pub fate : HasFate terms before h s.fate
 
--- of a fault of the frames the bytes that are lent show the header part that has it
-abbrev pub ShowsFault : code.Raw → Rests → Type 0
-ShowsFault (lent.Content side bytes) rests = Unit {0}
-ShowsFault (lent.Broken side rule rest) rests =
+-- after these events the bytes that are lent with a content are those at hand behind it; and those
+-- that are lent with a fault of the frames show the header part that has it
+abbrev pub ShowsFault : code.Raw → List Event → Rests → Type 0
+ShowsFault (lent.Content side bytes behind) before rests =
+    behind.now ≡ behind_at rests before side
+ShowsFault (lent.Broken side rule rest) before rests =
     header_front rest.now ≡ header_front (rest_of rests side)
-ShowsFault (lent.Snapshot version uri text) rests = Unit {0}
+ShowsFault (lent.Snapshot version uri text) before rests = Unit {0}
 
 -- **one more event comes after these**, which were told
 pub record Comes (raw : Raw) (terms : Terms) (messages : session.State) (documents : docs.State)

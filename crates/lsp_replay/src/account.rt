@@ -4,7 +4,7 @@ ghost use Rattle.std.specs.Prelude.{OnErr, string_bytes, true};
 ghost use Rattle.lsp_docs.specs.Documents.{Terms};
 ghost use Rattle.lsp_replay.specs.Run.{Run};
 ghost use Rattle.lsp_replay.specs.Telling.{Closes, IsEnd, IsSeen, Says, ShowsFault, Stood};
-ghost use Rattle.lsp_verdict.specs.Heard.{Heard};
+ghost use Rattle.lsp_verdict.specs.Heard.{Heard, heard_events};
 
 use crate::events::Events;
 use crate::log_events::{End, LogEvents};
@@ -37,9 +37,9 @@ pub trait Account {
         ensures says { IfOk result (λ flow. (terms : Terms) (before : List Heard) (h : Heard)
             → stands self.old terms before
             → IsSeen held.now.session held.now.docs held.now.counts seen.now terms before h
-            → Says (run (asked self.old)) terms before h (ShowsFault seen.now.raw)
-            (string_bytes text.old) (string_bytes text.new)
-            (stands self.new terms (before ++ h ∷ [])) flow) };
+            → Says (run (asked self.old)) terms before h
+            (ShowsFault seen.now.raw (heard_events before)) (string_bytes text.old)
+            (string_bytes text.new) (stands self.new terms (before ++ h ∷ [])) flow) };
 
     /// Says what there is to say at the end of the log, and how the run ends. The log has its last
     /// bytes, and where it has a fault, the place of that.

@@ -110,7 +110,7 @@ impl<S: TextStore> Events<S> {
         ensures uncounted { OnErr result (self.new.counts ≡ self.old.counts) }
     {
         match raw {
-            Raw::Content { side, content } => {
+            Raw::Content { side, content, .. } => {
                 let mut spoken = self.messages.blank();
                 read_into(
                     &self.session,

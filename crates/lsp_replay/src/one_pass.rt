@@ -13,7 +13,7 @@ ghost use Rattle.lsp_replay.specs.Telling.{Stood};
 ghost use Rattle.lsp_replay.specs.Telling.{kept_before, rule_of};
 ghost use Rattle.lsp_replay.specs.Tries.{TriesCall, made_in};
 ghost use Rattle.lsp_verdict.specs.Event.{call_at};
-ghost use Rattle.lsp_verdict.specs.Heard.{Heard};
+ghost use Rattle.lsp_verdict.specs.Heard.{Heard, heard_events};
 ghost use Rattle.lsp_verdict.specs.Given.{raw_view};
 ghost use Rattle.lsp_verdict.specs.Outcome.{log_terms};
 ghost use Rattle.lsp_verdict.specs.Placed as placed;
@@ -149,7 +149,8 @@ fn tell<W: Sink, A: Account>(
         (A.stands account.old terms before)
         → Steps (W.told writer.old) (W.told writer.new)
         (WantsAt (A.run (A.asked account.old)) terms before h)
-        (DueOf (A.run (A.asked account.old)) terms before h (ShowsFault raw.entry)
+        (DueOf (A.run (A.asked account.old)) terms before h
+        (ShowsFault raw.entry (heard_events before))
         (A.stands account.new terms (before ++ h ∷ [])) held.new.session held.new.docs
         held.new.counts) result }
 {
@@ -174,15 +175,15 @@ fn see<A: Account>(
     ensures saw { IfOk result (λ flow. (terms : Terms) (before : List Heard) (h : Heard)
         → Comes (raw_view raw.entry) terms held.old.session held.old.docs held.old.counts before h
         (A.stands account.old terms before)
-        → Saw (A.run (A.asked account.old)) terms before h (ShowsFault raw.entry)
-        (string_bytes text.old) (string_bytes text.new)
-        (A.stands account.new terms (before ++ h ∷ [])) held.new.session held.new.docs
-        held.new.counts flow) }
+        → Saw (A.run (A.asked account.old)) terms before h
+        (ShowsFault raw.entry (heard_events before)) (string_bytes text.old)
+        (string_bytes text.new) (A.stands account.new terms (before ++ h ∷ []))
+        held.new.session held.new.docs held.new.counts flow) }
 {
     match raw {
-        Raw::Content { side, content } => {
+        Raw::Content { side, content, .. } => {
             let mut spoken = held.messages.blank();
-            see_content(held, account, side, content, &mut spoken, text)
+            see_content(held, account, raw, side, content, &mut spoken, text)
         }
         Raw::Broken { rule, .. } => skip(held, account, raw, rule, None, text),
         Raw::Snapshot { .. } => {
@@ -196,21 +197,22 @@ fn see<A: Account>(
 fn see_content<A: Account>(
     held: &mut Events<Lined>,
     account: &mut A,
+    raw: Raw<'_>,
     side: Side,
     content: &[u8],
     spoken: &mut Spoken,
     text: &mut String,
 ) -> Result<Flow>
+    requires { raw_view raw ≡ placed.content side content.now }
     ensures asked { A.asked account.new ≡ A.asked account.old }
     ensures saw { IfOk result (λ flow. (terms : Terms) (before : List Heard) (h : Heard)
-        → Comes (placed.content side content.now) terms held.old.session held.old.docs
-        held.old.counts before h (A.stands account.old terms before)
-        → Saw (A.run (A.asked account.old)) terms before h (λ rests. Unit {0})
-        (string_bytes text.old) (string_bytes text.new)
-        (A.stands account.new terms (before ++ h ∷ [])) held.new.session held.new.docs
-        held.new.counts flow) }
+        → Comes (raw_view raw.entry) terms held.old.session held.old.docs held.old.counts before h
+        (A.stands account.old terms before)
+        → Saw (A.run (A.asked account.old)) terms before h
+        (ShowsFault raw.entry (heard_events before)) (string_bytes text.old)
+        (string_bytes text.new) (A.stands account.new terms (before ++ h ∷ []))
+        held.new.session held.new.docs held.new.counts flow) }
 {
-    let raw = Raw::Content { side, content };
     match read_into(&held.session, &mut held.messages, side, content, spoken) {
         Ok(()) => {
             let read = held.as_read(raw, Some(spoken));
@@ -241,10 +243,10 @@ fn see_read<A: Account>(
         → Comes (raw_view read.entry.raw) terms held.old.session held.old.docs held.old.counts
         before h (A.stands account.old terms before)
         → IsSound h.note.event → IsRead (kept_before terms before) h.note.event read.entry
-        → Saw (A.run (A.asked account.old)) terms before h (ShowsFault read.entry.raw)
-        (string_bytes text.old) (string_bytes text.new)
-        (A.stands account.new terms (before ++ h ∷ [])) held.new.session held.new.docs
-        held.new.counts flow) }
+        → Saw (A.run (A.asked account.old)) terms before h
+        (ShowsFault read.entry.raw (heard_events before)) (string_bytes text.old)
+        (string_bytes text.new) (A.stands account.new terms (before ++ h ∷ []))
+        held.new.session held.new.docs held.new.counts flow) }
 {
     match held.keep(&read) {
         Ok(took) => {
@@ -294,10 +296,10 @@ fn skip<A: Account>(
         (option_map (λ s. s.now) spoken.entry)
         → TriesCall terms (kept_before terms before)
         (call_at (kept_before terms before) h.note.event) rule (made_in held.old.tried)
-        → Saw (A.run (A.asked account.old)) terms before h (ShowsFault raw.entry)
-        (string_bytes text.old) (string_bytes text.new)
-        (A.stands account.new terms (before ++ h ∷ [])) held.new.session held.new.docs
-        held.new.counts flow) }
+        → Saw (A.run (A.asked account.old)) terms before h
+        (ShowsFault raw.entry (heard_events before)) (string_bytes text.old)
+        (string_bytes text.new) (A.stands account.new terms (before ++ h ∷ []))
+        held.new.session held.new.docs held.new.counts flow) }
 {
     held.counts.add(raw.who());
     let seen = Seen {

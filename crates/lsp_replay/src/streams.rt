@@ -191,6 +191,7 @@ impl Streams {
             } => Raw::Content {
                 side: Side::Editor,
                 content: self.editor.last(len),
+                behind: self.editor.rest(),
             },
             Due::Content {
                 side: Side::Server,
@@ -198,6 +199,7 @@ impl Streams {
             } => Raw::Content {
                 side: Side::Server,
                 content: self.server.last(len),
+                behind: self.server.rest(),
             },
             Due::Broken { side, rule } => Raw::Broken {
                 side,

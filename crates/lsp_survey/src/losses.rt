@@ -102,7 +102,7 @@ impl Losses {
         ensures memory { OnErr result (may_lose (raw_view seen.now.raw) (Some rule) ≡ true) }
     {
         match seen.raw {
-            Raw::Content { side, content } => match seen.spoken {
+            Raw::Content { side, content, .. } => match seen.spoken {
                 Some(spoken) => self.offend_message(held, side, rule, &spoken.message, seen.call),
                 None => self.offend_unread(held.docs.alloc(), &held.session, side, rule, content),
             },

@@ -20,5 +20,6 @@ pub mod Upgrading
 pub mod OpenAtEnd
 pub mod Completing
 pub mod RunsJudged
+pub mod Behind
 pub mod Offences
 pub mod Theorems

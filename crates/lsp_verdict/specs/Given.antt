@@ -62,7 +62,7 @@ given_offence o = record { no = as_given o.no; follows = o.follows }
 -- ---- events that are lent before their contents are read
 
 abbrev pub raw_view : lent.Raw → Raw
-raw_view (raws.Content side bytes) = content side bytes.now
+raw_view (raws.Content side bytes behind) = content side bytes.now
 raw_view (raws.Broken side rule rest) = broken side rule
 raw_view (raws.Snapshot version uri text) = show version uri.now text.now
 

@@ -8,10 +8,12 @@ use lsp_rpc::Side;
 /// An event before its content is read, lent from where it is held.
 #[derive(Clone, Copy, Debug, PartialEq, Eq)]
 pub enum Raw<'a> {
-    /// A content that a side sent (LSP 3.17, "Base Protocol").
+    /// A content that a side sent (LSP 3.17, "Base Protocol"), and the bytes of the side after its
+    /// frame in the record in which that ends.
     Content {
         side: Side,
         content: &'a [u8],
+        behind: &'a [u8],
     },
     /// A fault of a side's frames, by its rule, 101 to 106, and the bytes of the side after its
     /// last whole frame. They reach at least far enough to show the header part that has the fault.

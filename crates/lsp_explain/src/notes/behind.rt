@@ -152,6 +152,7 @@ fn malformed(alloc: Global, raw: Raw<'_>, rule: u16) -> Result<Option<String>>
         Raw::Content {
             side: Side::Editor,
             content,
+            ..
         } => document_of(alloc, Side::Editor, content),
         _ => Ok(None),
     }

@@ -101,7 +101,7 @@ impl Refusals {
             → said_at terms (heard_events before) h.note.event ≡ None
             → AreRefusals terms self.new (heard_events (before ++ h ∷ []))) }
     {
-        let Raw::Content { side, content } = raw else {
+        let Raw::Content { side, content, .. } = raw else {
             return Ok(());
         };
         let Some(spoken) = spoken else {

@@ -130,7 +130,7 @@ impl Spellings {
             → said_at terms (heard_events before) h.note.event ≡ None
             → AreSpellings terms self.new (heard_events (before ++ h ∷ []))) }
     {
-        let Raw::Content { side, content } = raw else {
+        let Raw::Content { side, content, .. } = raw else {
             return Ok(());
         };
         let Some(spoken) = spoken else {

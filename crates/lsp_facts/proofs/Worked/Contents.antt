@@ -59,17 +59,17 @@ no_colon = refl
 
 -- ---- facts
 
-greets : fact_lines (content_facts 201 (codes "hi\n"))
+greets : fact_lines (content_facts 201 (codes "hi\n") [])
     ≡ codes "begins \"hi\\n\"\nbreaks 0\nbefore \"\"\nafter \"hi\\n\"\n"
 unfolding utf8_valid_len is_utf8 chars encode digits escape_byte
 greets = refl
 
-not_utf_8 : fact_lines (content_facts 201 (codes "[\"a" ++ 255 ∷ codes "\"]"))
+not_utf_8 : fact_lines (content_facts 201 (codes "[\"a" ++ 255 ∷ codes "\"]") [])
     ≡ codes "begins \"[\\\"a\"\nbreaks 3\nbefore \"[\\\"a\"\nafter \"\"\n"
 unfolding utf8_valid_len is_utf8 chars encode digits escape_byte
 not_utf_8 = refl
 
-a_batch : fact_lines (content_facts 202 (codes "[]")) ≡ codes "begins \"[]\"\n"
+a_batch : fact_lines (content_facts 202 (codes "[]") []) ≡ codes "begins \"[]\"\n"
 unfolding utf8_valid_len is_utf8 chars encode digits escape_byte
 a_batch = refl
 

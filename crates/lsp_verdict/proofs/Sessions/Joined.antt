@@ -111,7 +111,7 @@ all_brought limits sizes side bytes contents rest flaw now stream b =
 
 -- ---- as they are read
 
-own_read : (side : Side) (raw : Raw) (e : Event) → Reads raw e → is_of side e ≡ is_own side raw
+pub own_read : (side : Side) (raw : Raw) (e : Event) → Reads raw e → is_of side e ≡ is_own side raw
 own_read side (content by bytes) (message m) reads = ap (same_side side) reads.by
 own_read side (content by bytes) (fault other rule) reads = ap (same_side side) reads.0
 own_read side (content by bytes) (snapshot uri number text) reads = absurd reads

@@ -51,7 +51,8 @@ pub returns-in-None : goal.returns-in-None
 returns-in-None c = rw (c.in-Content.is, c.in-None.is) (IfOk-weaker c.content_facts.result _ _
     (λ facts are event before stands place reads speaks says tries offends rests fits.
     unread_said (terms_in c.args.past) before c.args.offence.now.rule rests c.in-Content.side
-    c.in-Content.content.now event facts reads speaks are) c.content_facts.ensures)
+    c.in-Content.content.now c.in-Content.behind.now event facts reads speaks fits are)
+    c.content_facts.ensures)
 
 pub returns-in-Snapshot : goal.returns-in-Snapshot
 returns-in-Snapshot c =

@@ -29,9 +29,10 @@ returns c = on_ok_weaker c.push_details.result (λ says terms before h trail see
     let noted = subst (λ (w : Raw). IsNoted w h.note) here.is here.noted in
     let place = placed_by o (heard_events before) h.note.event (few_before before here.few) no_is in
     let line = string_bytes c.push_event.new.lines in
-    subst (λ (t : Terms). TellsOf t before h o.rule (ShowsFault s.raw) old
+    let Fits = ShowsFault s.raw (heard_events before) in
+    subst (λ (t : Terms). TellsOf t before h o.rule Fits old
     (string_bytes c.push_details.new.lines)) seen.stood.by
-    (tells_of own before h o raw (ShowsFault s.raw) c.in_ok-facts.facts old
+    (tells_of own before h o raw Fits c.in_ok-facts.facts old
     (string_bytes c.push_report.new.text) line (string_bytes c.push_details.new.lines) here.is no_is
     (λ rests shows. c.in_ok-facts.ensures h.note.event (heard_events before) stands place noted.0
     here.spoken here.says fate.1 fate.0 rests shows)

@@ -10,7 +10,7 @@ use Rattle.lsp_verdict.specs.Placed.{Reads}
 use Rattle.lsp_replay.proofs.one_pass.see.Goals as goal
 
 pub returns-in-Content-clause-saw : goal.returns-in-Content-clause-saw
-returns-in-Content-clause-saw g c = rw c.in-Content.is c.see_content.ensures.saw
+returns-in-Content-clause-saw g c = c.see_content.ensures.saw
 
 pub returns-in-Content-clause-memory : goal.returns-in-Content-clause-memory
 returns-in-Content-clause-memory g c =

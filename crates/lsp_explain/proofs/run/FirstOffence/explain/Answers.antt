@@ -25,7 +25,7 @@ returns c = record {
       let has = subst (λ (f : Fate). HasFate terms before h f) is seen.fate in
       let last = c.last_offence-offence.ensures before h seen.stood.counted seen.few seen.is
       seen.noted in
-      first_told terms before h c.args.self.now c.args.self.now stands (ShowsFault c.args.seen.now.raw)
+      first_told terms before h c.args.self.now c.args.self.now stands (ShowsFault c.args.seen.now.raw (heard_events before))
       (string_bytes c.args.text.now) _ rule verdict c.in_ok-boxed.boxed _ _
       c.in_ok-boxed.ensures.ok has.0
       (c.verdict-verdict.ensures ∙ ap (λ (x : Offence). x.no) last)

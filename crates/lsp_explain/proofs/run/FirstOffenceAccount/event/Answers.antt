@@ -3,6 +3,7 @@ use Rattle.std.proofs.lemmas.Result.{IfOk-weaker}
 use Rattle.lsp_replay.proofs.AllHeard.{kept_seen}
 use Rattle.lsp_replay.proofs.Wanting.{on_err}
 use Rattle.lsp_replay.specs.Telling.{ShowsFault}
+use Rattle.lsp_verdict.specs.Heard.{heard_events}
 use Rattle.lsp_explain.specs.Misfits.{AreMisfits}
 use Rattle.lsp_explain.proofs.AccountSteps.{first_kept}
 use Rattle.lsp_explain.proofs.Misfitting.{found_kept-push}
@@ -15,7 +16,7 @@ returns-in_default c = record {
   memory = tt;
   says = λ terms before h stands seen.
       let rule = kept_seen terms before h c.args.seen.now.fate c.in_default.not-Offends seen.fate in
-      first_kept terms before h c.args.self.now _ stands (ShowsFault c.args.seen.now.raw)
+      first_kept terms before h c.args.self.now _ stands (ShowsFault c.args.seen.now.raw (heard_events before))
       (string_bytes c.args.text.now) rule (c.in_ok-keep.ensures terms before h stands.trail seen)
       (subst (AreMisfits _) (sym (found_kept-push terms before h))
       (c.in_ok-note_kept.ensures terms before h _ stands.misfits seen))

@@ -1,5 +1,6 @@
 use Rattle.std.proofs.Common.{◌∙◌, ap, refl, string_bytes, subst}
 use Rattle.lsp_replay.specs.Telling.{HasFate, ShowsFault, rule_of}
+use Rattle.lsp_verdict.specs.Heard.{heard_events}
 use Rattle.lsp_replay.specs.declared.seen.Fate.{Fate}
 use Rattle.lsp_survey.proofs.SurveySteps.{offence_is}
 use Rattle.lsp_replay.proofs.AllHeard.{kept_seen}
@@ -19,7 +20,7 @@ returns-in_default c = record {
   says = λ terms before h stands seen.
       let told = c.in_ok-follows.ensures.told terms before h stands.lost seen in
       let rule = kept_seen terms before h c.args.seen.now.fate c.in_default.not-Offends seen.fate in
-      all_kept terms before h c.args.self.now _ stands (ShowsFault c.args.seen.now.raw)
+      all_kept terms before h c.args.self.now _ stands (ShowsFault c.args.seen.now.raw (heard_events before))
       (string_bytes c.args.text.now) _ told rule refl
       (c.in_ok-keep.ensures terms before h stands.trail seen);
 }
@@ -58,7 +59,7 @@ returns-then-follows c = record {
       let has = subst (λ (f : Fate). HasFate terms before h f) c.in-Offends.is seen.fate in
       let is = offence_is terms before h c.in-Offends.rule _ _ has.0 told.late_is
       (c.last_offence-offence.ensures before h seen.stood.counted seen.few seen.is seen.noted) in
-      all_late terms before h c.args.self.now _ stands (ShowsFault c.args.seen.now.raw)
+      all_late terms before h c.args.self.now _ stands (ShowsFault c.args.seen.now.raw (heard_events before))
       (string_bytes c.args.text.now) _ told c.in-Offends.rule _ c.if-follows.true has.0 is
       c.add.ensures (trail_past terms before h _ stands.trail c.in-Offends.rule has.0);
 }
@@ -76,7 +77,7 @@ returns c = record {
       let last = c.last_offence-offence.ensures before h seen.stood.counted seen.few seen.is
       seen.noted in
       let is = offence_is terms before h rule _ _ has.0 told.late_is last in
-      all_told terms before h c.args.self.now _ stands (ShowsFault c.args.seen.now.raw)
+      all_told terms before h c.args.self.now _ stands (ShowsFault c.args.seen.now.raw (heard_events before))
       (string_bytes c.args.text.now) _ told rule _ _ c.if-follows.false has.0 is c.add.ensures
       (trail_past terms before h _ stands.trail rule has.0)
       (told_of terms before h c.args.seen.now rule c.in-Offends.tried offence _ _ _ _ _ _

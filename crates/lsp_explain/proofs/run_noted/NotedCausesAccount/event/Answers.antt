@@ -2,6 +2,7 @@ use Rattle.std.proofs.Common.{◌≡◌, ◌++◌, ◌∷◌, [], refl, string_b
 use Rattle.lsp_docs.specs.Documents.{Terms}
 use Rattle.lsp_facts.specs.Fact.{fact_lines}
 use Rattle.lsp_replay.specs.Telling.{ShowsFault}
+use Rattle.lsp_verdict.specs.Heard.{heard_events}
 use Rattle.lsp_replay.proofs.Wanting.{on_err}
 use Rattle.lsp_explain.specs.AllNotes.{AreAlong, notes_at}
 use Rattle.lsp_explain.specs.ExplainRuns.{AllStands}
@@ -43,7 +44,7 @@ returns c = record {
       c.in_ok-flow.flow told.goes in
       let along = subst (λ (t : Terms). AreAlong t noted before all) (sym seen.stood.by)
       (c.in_ok-note.ensures terms before h stands.causes.trail stands.notes seen) in
-      noted_says completeness terms before h (ShowsFault c.args.seen.now.raw)
+      noted_says completeness terms before h (ShowsFault c.args.seen.now.raw (heard_events before))
       (AllStands causes terms all) _ c.in_ok-flow.flow (string_bytes c.args.text.now)
       (string_bytes c.event.new.text) (string_bytes c.push_new.new.lines) told
       (subst (λ (t : Terms). string_bytes c.push_new.new.lines

@@ -1,6 +1,7 @@
 use Rattle.std.proofs.Common.{subst, sym}
 use Rattle.lsp_replay.proofs.Wanting.{on_err}
 use Rattle.lsp_json_run.specs.JsonRun.{IsQuiet}
+use Rattle.lsp_verdict.specs.Heard.{heard_events}
 use Rattle.lsp_json_run.proofs.JsonSteps.{json_says, json_wants, some_rests}
 use Rattle.lsp_json_run.proofs.as_json.JsonAccount.event.Goals as goal
 
@@ -17,7 +18,7 @@ returns-in_err-push_objects-clause-asked g c = c.in_ok-flow.ensures.asked
 pub returns-in_err-push_objects-clause-memory : goal.returns-in_err-push_objects-clause-memory
 returns-in_err-push_objects-clause-memory g c =
     on_err c.from_residual-in_err-push_objects.result (λ terms before h stands seen.
-    let rests = some_rests c.args.seen.now.raw in
+    let rests = some_rests c.args.seen.now.raw (heard_events before) in
     json_wants c.clear.ensures.bytes c.as_str.ensures.value stands.1 rests.0 rests.1
     (c.in_ok-flow.ensures.says terms before h stands.0 seen)
     c.in_err-push_objects.ensures.memory)

@@ -20,7 +20,7 @@ returns-in_default c = record {
   says = λ terms before h stands seen.
       let rule = kept_seen terms before h c.args.seen.now.fate c.in_default.not-Offends seen.fate in
       says_none terms before h (max c.args.self.now.most 1) c.keep.new.self
-      (ShowsFault c.args.seen.now.raw) (string_bytes c.args.text.now) rule
+      (ShowsFault c.args.seen.now.raw (heard_events before)) (string_bytes c.args.text.now) rule
       (c.in_ok-keep.ensures.keeps terms before h stands seen rule);
 }
 
@@ -56,7 +56,7 @@ returns c = record {
       let has = subst (λ (f : Fate). HasFate terms before h f) c.in-Offends.is seen.fate in
       let reads = own_reads terms before h _ _ _ c.args.seen.now seen stands.clean in
       let speaks = own_speaks terms before h _ _ _ c.args.seen.now seen stands.clean in
-      says_last most terms before h rule (ShowsFault c.args.seen.now.raw) _
+      says_last most terms before h rule (ShowsFault c.args.seen.now.raw (heard_events before)) _
       c.outcome_of-outcome.result c.in_ok-boxed.boxed (string_bytes c.args.text.now)
       (string_bytes c.say_last.new.text) c.in_ok-boxed.ensures.ok has.0
       (c.outcome_of-outcome.ensures terms before h seen.stood seen.few seen.is seen.noted has.0)

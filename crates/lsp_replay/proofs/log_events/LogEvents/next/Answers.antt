@@ -12,7 +12,7 @@ returns-in-Ok-Event g c = (
         (c.in-Ok-Event.ensures.answer limits format start records given due h) in
         let gave = lent_event limits format c.find.new.self start _ records given c.in-Ok-Event.due _
         c.lend.ensures.raw finds in
-        (gave.0, gave.1, gave.2, c.lend.ensures.rest),
+        (gave.0, gave.1, gave.2, (c.lend.ensures.rest, gave.3)),
   ),
   record { lends = tt },
 )

@@ -13,6 +13,7 @@ returns c = record {
   own = own;
   sides = sides;
   shows = refl;
+  holds = tt;
 }
   where
     own : (side : Side) → (of_side side c.new.result c.new-2.result).limits ≡ c.args.limits

@@ -3,7 +3,8 @@ use Rattle.std.proofs.lemmas.Int.{to_z-of_z}
 use mir.Val.{SFits}
 use Rattle.lsp_frame.specs.Decoder.{State}
 use Rattle.lsp_types.specs.declared.side.Side.TheVariants.{Editor, Server}
-use Rattle.lsp_replay.proofs.Streaming.{pushed_fault, pushed_limits, shown_pushed, side_pushed}
+use Rattle.lsp_replay.proofs.Streaming.{pushed_fault, pushed_limits, pushed_rest, shown_pushed}
+use Rattle.lsp_replay.proofs.Streaming.{side_pushed}
 use Rattle.lsp_replay.proofs.streams.Streams.push.Goals as goal
 
 pub returns-in_ok-push_owned-in-Bytes-Editor-default-clause-ok :
@@ -13,10 +14,11 @@ returns-in_ok-push_owned-in-Bytes-Editor-default-clause-ok c =
     let pushed = c.in_ok-push_owned-in-Bytes-Editor-default.ensures in
     let same = ap (λ (s : State). s.limits) pushed.ok.same ∙ pushed_limits _ _ in
     let fault = ap (λ (s : State). s.fault) pushed.ok.same ∙ pushed_fault _ _ in
+    let rest = pushed_rest _ _ _ pushed.ok in
     let stands = pushed.stands in
     rw (← c.self.view_is, at.is, at.side-is)
     (λ limits records given h.
-    side_pushed limits records given Editor _ _ at.bytes.items same fault stands h)
+    side_pushed limits records given Editor _ _ at.bytes.items same fault rest stands h)
 
 pub returns-in_ok-push_owned-in-Bytes-Server-default-clause-ok :
     goal.returns-in_ok-push_owned-in-Bytes-Server-default-clause-ok
@@ -25,10 +27,11 @@ returns-in_ok-push_owned-in-Bytes-Server-default-clause-ok c =
     let pushed = c.in_ok-push_owned-in-Bytes-Server-default.ensures in
     let same = ap (λ (s : State). s.limits) pushed.ok.same ∙ pushed_limits _ _ in
     let fault = ap (λ (s : State). s.fault) pushed.ok.same ∙ pushed_fault _ _ in
+    let rest = pushed_rest _ _ _ pushed.ok in
     let stands = pushed.stands in
     rw (← c.self.view_is, at.is, at.side-is)
     (λ limits records given h.
-    side_pushed limits records given Server _ _ at.bytes.items same fault stands h)
+    side_pushed limits records given Server _ _ at.bytes.items same fault rest stands h)
 
 pub returns-in-Snapshot-clause-ok : goal.returns-in-Snapshot-clause-ok
 returns-in-Snapshot-clause-ok c =
