@@ -9,14 +9,22 @@ ghost use Rattle.lsp_explain.specs.Notes as spec;
 ghost use Rattle.lsp_explain.specs.Notes.{misuse_line, name_notes, noticed, old_name_notes};
 ghost use Rattle.lsp_explain.specs.Notes.{note_lines, notes_by, uncompared, unshown_line};
 ghost use Rattle.lsp_explain.specs.Refusals.{AreRefusals};
+ghost use Rattle.lsp_explain.specs.ServerEdits.{AreServerEdits};
 ghost use Rattle.lsp_explain.specs.Spellings.{AreSpellings};
 ghost use Rattle.lsp_explain.specs.Trails.{StandsAfter, terms_in};
 
 mod document_notes;
+mod edit_requests;
+mod edited;
+mod late_edits;
 mod misfits;
 mod refusals;
 mod requests;
+mod server_edits;
 mod spellings;
+mod text_edits;
+mod texts_since;
+mod unsent;
 
 use crate::trace::push_earlier;
 use crate::trail::{DocumentEvent, Misuse, Misused, Past};
@@ -25,6 +33,7 @@ use lsp_rpc::{Encoding, Result};
 use lsp_verdict::{Verdict, encoding_name};
 pub(crate) use misfits::Misfits;
 pub(crate) use refusals::Refusals;
+pub(crate) use server_edits::ServerEdits;
 pub(crate) use spellings::Spellings;
 use std::fmt::Write;
 
@@ -38,12 +47,14 @@ pub(crate) fn push_notes(
     misfits: &Misfits,
     refusals: &Refusals,
     spellings: &Spellings,
+    server_edits: &ServerEdits,
     verdict: &Verdict,
 ) -> Result<()>
     ensures { OnOk result ((before : List Event) (found : List Found)
         → StandsAfter past.entry before → AreMisfits misfits.now found
         → AreRefusals (terms_in past.entry) refusals.now before
         → AreSpellings (terms_in past.entry) spellings.now before
+        → AreServerEdits (terms_in past.entry) server_edits.now before
         → string_bytes lines.new ≡ string_bytes lines.old ++ note_lines
         (notes_by (verdict_view verdict.now) (noticed (terms_in past.entry) before found))) }
 {
@@ -61,6 +72,7 @@ pub(crate) fn push_notes(
     misfits.push(&mut notes)?;
     refusals.push(&mut notes)?;
     spellings.push(&mut notes)?;
+    server_edits.push(&mut notes)?;
     push_counted(lines, &notes)
 }
 
