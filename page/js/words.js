@@ -194,6 +194,13 @@ function wrongLength([sent, , length, ...rest]) {
     fits.length === 0 ? "" : `; in units of ${fits.join(" or ")} it is ${sent} long`];
 }
 
+// A note on edits that were made in another text than that of the request.
+function lateEdits(values) {
+  const [request, answer, change] = [0, 4, 8].map((at) => shownEvent(values.slice(at, at + 4)));
+  return [...change, " makes the edits of ", ...answer, " in a text that had changed since ",
+    ...request];
+}
+
 const NOTES = {
   "as-notification": noteOn("is a request in LSP 3.17, and was sent as a notification"),
   "as-request": noteOn("is a notification in LSP 3.17, and was sent as a request"),
@@ -214,6 +221,12 @@ const NOTES = {
     ...shownEvent(by), " names ", shownText(uri), ", which is not open; ", shownText(open),
     " is, and is spelled in another way",
   ],
+  "late-edits": lateEdits,
+  outside: ([line, column, ...by]) => [...shownEvent(by),
+    ` edits a range at ${shownPlace(line, column)}, which the text does not have`],
+  overlap: (by) => [...shownEvent(by), " has edits that overlap"],
+  unsent: ([version, ...by]) => [...shownEvent(by),
+    ` names version ${version}, which no message has set`],
   "no-snapshot": ([uri]) => [shownText(uri), " was changed, and no snapshot of it was compared"],
 };
 
