@@ -13,6 +13,7 @@ use Rattle.lsp_explain.specs.DocumentNotes.{document_line, notes_view}
 use Rattle.lsp_explain.specs.Misfits.{misfit_notes}
 use Rattle.lsp_explain.specs.Notes.{exit_notes, misuse_line, name_notes, old_name_notes}
 use Rattle.lsp_explain.specs.Notes.{other_name, note_lines, uncompared}
+use Rattle.lsp_explain.specs.ServerEdits.{server_lines}
 use Rattle.lsp_explain.specs.Trails.{terms_in}
 use Rattle.lsp_explain.proofs.notes.push_notes.Goals as goal
 
@@ -20,7 +21,7 @@ pub returns : goal.returns
 returns c =
     let terms = terms_in c.args.past in
     on_ok_weaker c.push_counted.result
-    (λ written before found stands are refused spelled.
+    (λ written before found stands are refused spelled sent.
     let noted = stands.trail.said in
     let older = c.older_encoding.ensures ∙ noted.notes_are.older_is in
     let agreed = c.encoding.ensures (sent_in (kept_of terms before)) stands.holds.sent
@@ -31,7 +32,11 @@ returns c =
     let renamed = c.renamed-renamed.ensures ∙ noted.renames_are.renamed_is in
     let unshown = ap names_view c.as_slice-2.ensures.value
     ∙ c.in_ok-unshown.ensures terms before stands.trail.opened in
-    let pushed = c.in_ok-push-3.ensures
+    let own = c.args.server_edits.now in
+    let pushed = c.in_ok-push-4.ensures
+    ∙ ap (λ l. l ++ server_lines (notes_view own.late_edits.items)
+    (notes_view own.outside.items) (notes_view own.overlaps.items)
+    (notes_view own.unsent.items)) (c.in_ok-push-3.ensures
     ∙ ap (λ l. l ++ map document_line (notes_view c.args.spellings.now.named.items))
     (c.in_ok-push-2.ensures
     ∙ ap (λ l. l ++ map document_line (notes_view c.args.refusals.now.refused.items))
@@ -46,12 +51,14 @@ returns c =
     ∙ ap (λ l. l ++ exit_notes c.args.past.trail.now.said.notes.abrupt_exit)
     (c.in_ok-push_misuses.ensures
     ∙ ap (λ l. l ++ map misuse_line (misused_views c.as_slice.result.now))
-    c.new-notes.ensures))))))) in
+    c.new-notes.ensures)))))))) in
     written
     ∙ ap (λ rs. string_bytes c.args.lines.now ++ note_lines rs)
     (pushed
     ∙ (λ i. map misuse_line (calls i) ++ exit_notes (exit i) ++ name_notes (name i)
     ++ old_name_notes (renamed i)
     ++ uncompared (verdict_view c.args.verdict.now) (unshown i) ++ misfit_notes found
-    ++ map document_line (refused.refused_are i) ++ map document_line (spelled.named_are i))))
+    ++ map document_line (refused.refused_are i) ++ map document_line (spelled.named_are i)
+    ++ server_lines (sent.late_edits_are i) (sent.outside_are i) (sent.overlaps_are i)
+    (sent.unsent_are i))))
     c.push_counted.ensures
