@@ -28,6 +28,7 @@ use Rattle.lsp_explain.specs.Explained.{cause_lines, is_cause, Breach, breach, n
 use Rattle.lsp_explain.specs.Misfits.{AreMisfits, found_kept}
 use Rattle.lsp_explain.specs.Notes.{note_lines, notes_by}
 use Rattle.lsp_explain.specs.Refusals.{AreRefusals}
+use Rattle.lsp_explain.specs.ServerEdits.{AreServerEdits}
 use Rattle.lsp_explain.specs.Spellings.{AreSpellings}
 use Rattle.lsp_explain.specs.Trails.{IsTrail}
 use Rattle.lsp_explain.specs.declared.run.FirstOffence.{FirstOffence}
@@ -84,9 +85,10 @@ module _ (terms : Terms) (before : List Heard) (h : Heard) where
         → AreMisfits next.misfits (found_kept terms (heard_events (before ++ h ∷ [])))
         → AreRefusals terms next.refusals (heard_events (before ++ h ∷ []))
         → AreSpellings terms next.spellings (heard_events (before ++ h ∷ []))
+        → AreServerEdits terms next.server_edits (heard_events (before ++ h ∷ []))
         → Says (explain_run account.completeness) terms before h Fits old old
         (FirstStands next terms (before ++ h ∷ [])) GoOn
-    first_kept kept trail misfits refusals spellings = record {
+    first_kept kept trail misfits refusals spellings server_edits = record {
       said = [];
       added = sym (append-nil old);
       is = λ rests fits. subst (λ (o : Option ℕ). SaysFirst rests terms
@@ -98,6 +100,7 @@ module _ (terms : Terms) (before : List Heard) (h : Heard) where
           misfits = misfits;
           refusals = refusals;
           spellings = spellings;
+          server_edits = server_edits;
           clean = first_after terms before h stands.clean ∙ none_is terms before h kept;
         },
       );

@@ -16,6 +16,8 @@ pub mod Misfitting
 pub mod NamedDocuments
 pub mod Refusing
 pub mod OtherSpellings
+pub mod ServerNoting
+pub mod EditedTexts
 pub mod Changing
 pub mod LaterChanges
 pub mod SentChanges

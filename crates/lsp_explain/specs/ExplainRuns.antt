@@ -28,6 +28,7 @@ use Rattle.lsp_explain.specs.Explained.{noticed_by}
 use Rattle.lsp_explain.specs.Misfits.{AreMisfits, found_kept}
 use Rattle.lsp_explain.specs.Notes.{note_lines, notes_by}
 use Rattle.lsp_explain.specs.Refusals.{AreRefusals}
+use Rattle.lsp_explain.specs.ServerEdits.{AreServerEdits}
 use Rattle.lsp_explain.specs.Spellings.{AreSpellings}
 use Rattle.lsp_explain.specs.Trails.{IsTrail}
 use Rattle.lsp_explain.specs.declared.run.FirstOffence.{FirstOffence}
@@ -144,6 +145,7 @@ pub record FirstStands (a : FirstOffence) (terms : Terms) (heard : List Heard) :
   pub misfits : AreMisfits a.misfits (found_kept terms (heard_events heard))
   pub refusals : AreRefusals terms a.refusals (heard_events heard)
   pub spellings : AreSpellings terms a.spellings (heard_events heard)
+  pub server_edits : AreServerEdits terms a.server_edits (heard_events heard)
   pub clean : first_no terms (heard_events heard) ≡ None
 
 -- **that of `explain --all`**, which may offend

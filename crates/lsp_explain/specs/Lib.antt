@@ -22,6 +22,12 @@ pub mod DocumentNotes
 pub mod Misfits
 pub mod Refusals
 pub mod Spellings
+pub mod TextEdits
+pub mod EditRequests
+pub mod TextsSince
+pub mod LateEdits
+pub mod Unsent
+pub mod ServerEdits
 pub mod Notes
 pub mod ExplainRuns
 pub mod Behind

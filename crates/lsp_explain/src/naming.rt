@@ -36,7 +36,7 @@ fn diagnoses(message: &Message) -> bool
     }
 }
 
-fn is_diagnostics(method: &str) -> bool
+pub(crate) fn is_diagnostics(method: &str) -> bool
     ensures { result ≡ spec.is_diagnostics method.now }
 {
     method == "textDocument/publishDiagnostics"

@@ -10,18 +10,26 @@ ghost use Rattle.lsp_explain.specs.Misfits.{AreMisfits, Found};
 ghost use Rattle.lsp_explain.specs.Notes as spec;
 ghost use Rattle.lsp_explain.specs.Notes.{count_line, misuse_line, name_notes, name_of, noticed};
 ghost use Rattle.lsp_explain.specs.Notes.{note_lines, notes_by, old_name_notes, uncompared};
-ghost use Rattle.lsp_explain.specs.Notes.{unshown_line, with_exit};
+ghost use Rattle.lsp_explain.specs.Notes.{unshown_line, with_exit, with_server};
 ghost use Rattle.lsp_explain.specs.Refusals.{AreRefusals};
+ghost use Rattle.lsp_explain.specs.ServerEdits.{AreServerEdits};
 ghost use Rattle.lsp_explain.specs.Spellings.{AreSpellings};
 ghost use Rattle.lsp_explain.specs.Trails.{StandsAfter, terms_in};
 
 mod along;
 mod behind;
 mod document_notes;
+mod edit_requests;
+mod edited;
+mod late_edits;
 mod misfits;
 mod refusals;
 mod requests;
+mod server_edits;
 mod spellings;
+mod text_edits;
+mod texts_since;
+mod unsent;
 
 use crate::trace::push_earlier;
 use crate::trail::{DocumentEvent, Misuse, Misused, Past};
@@ -32,6 +40,7 @@ use lsp_rpc::{Encoding, Result};
 use lsp_verdict::{Verdict, encoding_name};
 pub(crate) use misfits::Misfits;
 pub(crate) use refusals::Refusals;
+pub(crate) use server_edits::{ServerCounts, ServerEdits};
 pub(crate) use spellings::Spellings;
 use std::alloc::Global;
 use std::fmt::Write;
@@ -49,18 +58,29 @@ pub(crate) fn push_notes(
     misfits: &Misfits,
     refusals: &Refusals,
     spellings: &Spellings,
+    server_edits: &ServerEdits,
     verdict: &Verdict,
 ) -> Result<()>
     ensures { OnOk result ((before : List Event) (found : List Found)
         → StandsAfter past.entry before → AreMisfits misfits.now found
         → AreRefusals (terms_in past.entry) refusals.now before
         → AreSpellings (terms_in past.entry) spellings.now before
+        → AreServerEdits (terms_in past.entry) server_edits.now before
         → string_bytes lines.new ≡ string_bytes lines.old ++ note_lines
         (notes_by (verdict_view verdict.now) (noticed (terms_in past.entry) before found))) }
 {
     let alloc = *lines.allocator();
     let exit = past.trail.said.notes.abrupt_exit;
-    let notes = notes_of(alloc, past, exit, misfits, refusals, spellings, verdict)?;
+    let notes = notes_of(
+        alloc,
+        past,
+        exit,
+        misfits,
+        refusals,
+        spellings,
+        server_edits,
+        verdict,
+    )?;
     push_facts(lines, &notes)?;
     push_count(lines, &notes)
 }
@@ -73,14 +93,17 @@ fn notes_of(
     misfits: &Misfits,
     refusals: &Refusals,
     spellings: &Spellings,
+    server_edits: &ServerEdits,
     verdict: &Verdict,
 ) -> Result<Facts>
-    ensures { IfOk result (λ notes. (before : List Event) (found : List Found)
+    ensures { IfOk result (λ notes. (before served : List Event) (found : List Found)
         → StandsAfter past.entry before → AreMisfits misfits.now found
         → AreRefusals (terms_in past.entry) refusals.now before
         → AreSpellings (terms_in past.entry) spellings.now before
+        → AreServerEdits (terms_in past.entry) server_edits.now served
         → notes ≡ notes_by (verdict_view verdict.now)
-        (with_exit exit (noticed (terms_in past.entry) before found))) }
+        (with_exit exit (with_server (terms_in past.entry) served
+        (noticed (terms_in past.entry) before found)))) }
 {
     let said = &past.trail.said;
     let unshown = past.trail.openings.unshown()?;
@@ -93,6 +116,7 @@ fn notes_of(
     misfits.push(&mut notes)?;
     refusals.push(&mut notes)?;
     spellings.push(&mut notes)?;
+    server_edits.push(&mut notes)?;
     Ok(notes)
 }
 

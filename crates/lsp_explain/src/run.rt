@@ -16,7 +16,7 @@ ghost use Rattle.lsp_explain.specs.ExplainRuns.{ends_said, explain_run};
 ghost use Rattle.lsp_explain.specs.Explained.{WritesExplanation, explanation};
 ghost use Rattle.lsp_explain.specs.Trails.{IsTrail};
 
-use crate::notes::{Misfits, Refusals, Spellings, push_notes};
+use crate::notes::{Misfits, Refusals, ServerEdits, Spellings, push_notes};
 use crate::offence_facts::{push_end, push_flaw, push_offence};
 use crate::trail::{Past, Trail};
 use lsp_frame::{Limits, Sink, Source};
@@ -60,6 +60,7 @@ pub(crate) struct FirstOffence {
     misfits: Misfits,
     refusals: Refusals,
     spellings: Spellings,
+    server_edits: ServerEdits,
 }
 
 impl FirstOffence {
@@ -74,6 +75,7 @@ impl FirstOffence {
             misfits: Misfits::new(alloc),
             refusals: Refusals::new(alloc),
             spellings: Spellings::new(alloc),
+            server_edits: ServerEdits::new(alloc),
         }
     }
 }
@@ -92,6 +94,7 @@ impl Account for FirstOffence {
         let Fate::Offends { rule, tried } = seen.fate else {
             self.refusals.note_event(held, &self.trail, seen)?;
             self.spellings.note_event(held, &self.trail, seen)?;
+            self.server_edits.note_event(held, &self.trail, seen)?;
             self.trail.keep(held, seen)?;
             self.misfits.note_kept(held, seen)?;
             return Ok(Flow::GoOn);
@@ -108,6 +111,7 @@ impl Account for FirstOffence {
             &self.misfits,
             &self.refusals,
             &self.spellings,
+            &self.server_edits,
             &verdict,
         )?;
         let boxed = Box::new(*text.allocator(), Outcome::Judged(verdict))?;
@@ -130,6 +134,7 @@ impl Account for FirstOffence {
             &self.misfits,
             &self.refusals,
             &self.spellings,
+            &self.server_edits,
             &verdict,
         )?;
         Ok(Outcome::Judged(verdict))

@@ -3,7 +3,7 @@ ghost use Rattle.std.specs.Prelude.{◌≡◌, ◌++◌, ◌∷◌, [], List, No
 ghost use Rattle.std.specs.Prelude.{if◌then◌else◌, is_some, map, option_map, string_bytes};
 ghost use Rattle.lsp_docs.specs.Documents.{Terms};
 ghost use Rattle.lsp_facts.specs.Fact.{fact_lines};
-ghost use Rattle.lsp_replay.specs.Telling.{IsSeen, MaySpeak};
+ghost use Rattle.lsp_replay.specs.Telling.{HasFate, IsSeen, MaySpeak, rule_of};
 ghost use Rattle.lsp_rpc.specs.View.{act_view};
 ghost use Rattle.lsp_session.specs.Handshake.{phase};
 ghost use Rattle.lsp_session.specs.Sent.{Sent, is_shutdown};
@@ -15,20 +15,21 @@ ghost use Rattle.lsp_verdict.specs.Given.{verdict_view};
 ghost use Rattle.lsp_verdict.specs.Heard.{Heard, heard_events};
 ghost use Rattle.lsp_explain.specs.AllNotes as spec;
 ghost use Rattle.lsp_explain.specs.AllNotes.{AreAlong, beyond, counts, end_notes, exit_along};
-ghost use Rattle.lsp_explain.specs.AllNotes.{found_more, kinds, noticed_along, notes_at};
-ghost use Rattle.lsp_explain.specs.AllNotes.{refused_shutdown, told_view};
+ghost use Rattle.lsp_explain.specs.AllNotes.{found_more, is_broken, kinds, noticed_along};
+ghost use Rattle.lsp_explain.specs.AllNotes.{notes_at, refused_shutdown, sound_events, told_view};
 ghost use Rattle.lsp_explain.specs.Behind.{AreBehind};
 ghost use Rattle.lsp_explain.specs.DocumentNotes.{document_line, notes_view};
 ghost use Rattle.lsp_explain.specs.Misfits.{AreMisfits, Found};
 ghost use Rattle.lsp_explain.specs.Refusals.{AreRefusals};
+ghost use Rattle.lsp_explain.specs.ServerEdits.{AreServerEdits};
 ghost use Rattle.lsp_explain.specs.Spellings.{AreSpellings};
 ghost use Rattle.lsp_explain.specs.Trails.{IsTrail, StandsAfter, terms_in};
 
 use crate::notes::behind::Behind;
-use crate::notes::document_notes::{DocumentNote, push_lines};
+use crate::notes::document_notes::{beyond, push_beyond};
 use crate::notes::{
-    ABRUPT_EXIT, Misfits, Refusals, Spellings, name_in, notes_of, push_count, push_misuses,
-    push_name, push_renamed, push_uncompared,
+    ABRUPT_EXIT, Misfits, Refusals, ServerCounts, ServerEdits, Spellings, name_in, notes_of,
+    push_count, push_misuses, push_name, push_renamed, push_uncompared,
 };
 use crate::trace::push_earlier;
 use crate::trail::{Past, Trail};
@@ -51,6 +52,7 @@ pub(crate) struct NoteCounts {
     range_lengths: usize,
     refused: usize,
     spelled: usize,
+    server: ServerCounts,
 }
 
 /// The notes on the events of a session, and how many of them were told.
@@ -62,6 +64,10 @@ pub(crate) struct NotesAlong {
     misfits: Misfits,
     refusals: Refusals,
     spellings: Spellings,
+    /// What the server sent before the first event that breaks a rule.
+    server_edits: ServerEdits,
+    /// Whether an event broke a rule.
+    broken: bool,
     behind: Behind,
     /// Whether the editor sent a `shutdown` before the exit that broke a rule.
     shutdown_refused: bool,
@@ -77,6 +83,8 @@ impl NotesAlong {
             misfits: Misfits::new(alloc),
             refusals: Refusals::new(alloc),
             spellings: Spellings::new(alloc),
+            server_edits: ServerEdits::new(alloc),
+            broken: false,
             behind: Behind::new(alloc),
             shutdown_refused: false,
             told: NoteCounts {
@@ -88,6 +96,7 @@ impl NotesAlong {
                 range_lengths: 0,
                 refused: 0,
                 spelled: 0,
+                server: ServerCounts::none(),
             },
         }
     }
@@ -109,7 +118,9 @@ impl NotesAlong {
             → AreAlong terms self.new before (before ++ h ∷ [])) }
     {
         note_messages(&mut self.refusals, &mut self.spellings, held, trail, seen)?;
+        note_served(&mut self.server_edits, self.broken, held, trail, seen)?;
         note_changes(&mut self.misfits, &self.behind, held, seen)?;
+        self.broken |= offends(seen);
         self.shutdown_refused |= refuses_shutdown(held, seen);
         self.behind.note(held, seen)
     }
@@ -162,6 +173,7 @@ impl NotesAlong {
             &self.misfits,
             &self.refusals,
             &self.spellings,
+            &self.server_edits,
             verdict,
         )?;
         push_facts(lines, &last)?;
@@ -189,7 +201,8 @@ impl NotesAlong {
         push_beyond(notes, &self.misfits.past_ends, told.past_ends)?;
         push_beyond(notes, &self.misfits.range_lengths, told.range_lengths)?;
         push_beyond(notes, &self.refusals.refused, told.refused)?;
-        push_beyond(notes, &self.spellings.named, told.spelled)
+        push_beyond(notes, &self.spellings.named, told.spelled)?;
+        self.server_edits.push_beyond(notes, told.server)
     }
 
     /// How many notes of each kind there are.
@@ -208,6 +221,7 @@ impl NotesAlong {
             range_lengths: self.misfits.range_lengths.len(),
             refused: self.refusals.refused.len(),
             spelled: self.spellings.named.len(),
+            server: self.server_edits.counts(),
         }
     }
 
@@ -219,6 +233,15 @@ impl NotesAlong {
     {
         unless(self.shutdown_refused, past.trail.said.notes.abrupt_exit)
     }
+}
+
+/// Whether an event breaks a rule.
+fn offends(seen: &Seen<'_>) -> bool
+    ensures { (terms : Terms) (before : List Heard) (h : Heard)
+        → HasFate terms before h seen.now.fate
+        → result ≡ is_some (rule_of terms before h) }
+{
+    matches!(seen.fate, Fate::Offends { .. })
 }
 
 /// Whether an event is a `shutdown` of the editor that breaks a rule before the exit. The session
@@ -292,6 +315,30 @@ fn note_messages(
     spellings.note_event(held, trail, seen)
 }
 
+/// Notes what the server sends, unless this event or an earlier one breaks a rule: after one that is
+/// skipped, the server may have other texts and versions. The trail is of the events before it.
+fn note_served(
+    edits: &mut ServerEdits,
+    broken: bool,
+    held: &Events<Lined>,
+    trail: &Trail,
+    seen: &Seen<'_>,
+) -> Result<()>
+    ensures { OnOk result ((terms : Terms) (before : List Heard) (h : Heard)
+        → IsTrail terms trail.now (heard_events before) → broken ≡ is_broken terms before
+        → AreServerEdits terms edits.old (sound_events terms before)
+        → IsSeen held.now.session held.now.docs held.now.counts seen.now terms before h
+        → AreServerEdits terms edits.new (sound_events terms (before ++ h ∷ []))) }
+{
+    let Fate::Kept(_) = seen.fate else {
+        return Ok(());
+    };
+    if broken {
+        return Ok(());
+    }
+    edits.note_event(held, trail, seen)
+}
+
 /// Notes what the changes of an event find that can be made, unless the document was behind.
 fn note_changes(
     misfits: &mut Misfits,
@@ -311,21 +358,6 @@ fn note_changes(
         Fate::Kept(_) => misfits.note_kept(held, seen),
         Fate::Offends { rule, .. } => misfits.note_refuted(held, seen, rule),
     }
-}
-
-/// Adds the lines of these notes beyond so many.
-fn push_beyond(facts: &mut Facts, notes: &Vec<DocumentNote>, count: usize) -> Result<()>
-    ensures { OnOk result (facts.new
-        ≡ facts.old ++ drop count (map document_line (notes_view notes.now.items))) }
-{
-    push_lines(facts, beyond(notes.as_slice(), count))
-}
-
-/// The items beyond so many.
-fn beyond<T>(items: &[T], count: usize) -> &[T]
-    ensures { result.now ≡ drop count items.now }
-{
-    items.split_at(count.min(items.len())).1
 }
 
 /// What was found, unless it was told.

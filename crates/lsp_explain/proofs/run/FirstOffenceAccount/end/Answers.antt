@@ -5,6 +5,7 @@ use Rattle.lsp_verdict.specs.Heard.{heard_events}
 use Rattle.lsp_explain.specs.Misfits.{AreMisfits, found_kept}
 use Rattle.lsp_explain.specs.Notes.{noticed, note_lines, notes_by}
 use Rattle.lsp_explain.specs.Refusals.{AreRefusals}
+use Rattle.lsp_explain.specs.ServerEdits.{AreServerEdits}
 use Rattle.lsp_explain.specs.Spellings.{AreSpellings}
 use Rattle.lsp_explain.proofs.Ending.{first_closes}
 use Rattle.lsp_explain.proofs.Telling.{stands_at}
@@ -26,5 +27,7 @@ returns c = record {
       (subst (λ (t : Terms). AreRefusals t c.args.self.now.refusals (heard_events heard))
       (sym stood.by) stands.refusals)
       (subst (λ (t : Terms). AreSpellings t c.args.self.now.spellings (heard_events heard))
-      (sym stood.by) stands.spellings)));
+      (sym stood.by) stands.spellings)
+      (subst (λ (t : Terms). AreServerEdits t c.args.self.now.server_edits (heard_events heard))
+      (sym stood.by) stands.server_edits)));
 }

@@ -10,6 +10,7 @@ use Rattle.lsp_verdict.specs.Offences.{Offence}
 use Rattle.lsp_explain.specs.Misfits.{AreMisfits, found_kept, found_refuted}
 use Rattle.lsp_explain.specs.Notes.{noticed, note_lines, notes_by}
 use Rattle.lsp_explain.specs.Refusals.{AreRefusals}
+use Rattle.lsp_explain.specs.ServerEdits.{AreServerEdits}
 use Rattle.lsp_explain.specs.Spellings.{AreSpellings}
 use Rattle.lsp_explain.proofs.AccountSteps.{first_kept, first_told}
 use Rattle.lsp_explain.proofs.Misfitting.{found_kept-push}
@@ -28,7 +29,8 @@ returns-in_default c = record {
       (subst (AreMisfits _) (sym (found_kept-push terms before h))
       (c.in_ok-note_kept.ensures terms before h _ stands.misfits seen))
       (c.in_ok-note_event.ensures terms before h stands.trail stands.refusals seen rule)
-      (c.in_ok-note_event-2.ensures terms before h stands.trail stands.spellings seen rule);
+      (c.in_ok-note_event-2.ensures terms before h stands.trail stands.spellings seen rule)
+      (c.in_ok-note_event-3.ensures terms before h stands.trail stands.server_edits seen rule);
 }
 
 -- memory is refused
@@ -39,6 +41,10 @@ returns-in_err-note_event-clause-memory c =
 pub returns-in_err-note_event-2-clause-memory : goal.returns-in_err-note_event-2-clause-memory
 returns-in_err-note_event-2-clause-memory c =
     on_err c.from_residual-in_err-note_event-2.result (λ terms before h stands seen. refl)
+
+pub returns-in_err-note_event-3-clause-memory : goal.returns-in_err-note_event-3-clause-memory
+returns-in_err-note_event-3-clause-memory c =
+    on_err c.from_residual-in_err-note_event-3.result (λ terms before h stands seen. refl)
 
 pub returns-in_err-keep-clause-memory : goal.returns-in_err-keep-clause-memory
 returns-in_err-keep-clause-memory c =
@@ -94,5 +100,7 @@ returns c = record {
       (subst (λ (t : Terms). AreRefusals t c.args.self.now.refusals (heard_events before))
       (sym seen.stood.by) stands.refusals)
       (subst (λ (t : Terms). AreSpellings t c.args.self.now.spellings (heard_events before))
-      (sym seen.stood.by) stands.spellings)));
+      (sym seen.stood.by) stands.spellings)
+      (subst (λ (t : Terms). AreServerEdits t c.args.self.now.server_edits (heard_events before))
+      (sym seen.stood.by) stands.server_edits)));
 }

@@ -1,7 +1,7 @@
 use Rattle.std.specs.Prelude.{drop, min}
 use Rattle.std.proofs.Common.{◌≡◌, ◌∙◌, ap, length, rules}
 use Rattle.std.proofs.lemmas.List.{drop_min}
-use Rattle.lsp_explain.proofs.notes.along.beyond.Goals as goal
+use Rattle.lsp_explain.proofs.notes.document_notes.beyond.Goals as goal
 
 pub returns : goal.returns
 returns g c =

@@ -3,7 +3,7 @@ use Rattle.std.proofs.Common.{◌++◌, ◌∙◌, ap, sym}
 use Rattle.std.proofs.lemmas.List.{drop-map}
 use Rattle.std.proofs.lemmas.Result.{on_ok_weaker}
 use Rattle.lsp_explain.specs.DocumentNotes.{document_line, note_view, notes_view}
-use Rattle.lsp_explain.proofs.notes.along.push_beyond.Goals as goal
+use Rattle.lsp_explain.proofs.notes.document_notes.push_beyond.Goals as goal
 
 pub returns : goal.returns
 returns c = on_ok_weaker c.push_lines.result (λ pushed.

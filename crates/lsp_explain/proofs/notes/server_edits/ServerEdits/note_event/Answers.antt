@@ -1,0 +1,58 @@
+use Rattle.std.specs.Prelude.{option_map}
+use Rattle.std.proofs.Common.{◌≡◌, ◌∙◌, ap, refl, subst, sym}
+use Rattle.std.proofs.lemmas.Result.{on_ok_weaker}
+use Rattle.lsp_docs.specs.Documents.{Terms}
+use Rattle.lsp_docs.specs.Taken.{call_view}
+use Rattle.lsp_replay.proofs.Following.{whose_read}
+use Rattle.lsp_replay.proofs.Seeing.{events-push}
+use Rattle.lsp_verdict.specs.Given.{AreCounts, raw_view}
+use Rattle.lsp_verdict.specs.Heard.{heard_events}
+use Rattle.lsp_verdict.specs.Offences.{IsNoted}
+use Rattle.lsp_verdict.specs.Placed.{Raw}
+use Rattle.lsp_explain.specs.DocumentNotes.{notes_view, with_note}
+use Rattle.lsp_explain.specs.LateEdits.{lates_view}
+use Rattle.lsp_explain.specs.ServerEdits.{calls_with, last_answers, late_by}
+use Rattle.lsp_explain.specs.Trails.{IsTrail}
+use Rattle.lsp_explain.proofs.ServerNoting.{edits_called, edits_quiet}
+use Rattle.lsp_explain.proofs.notes.server_edits.ServerEdits.note_event.Goals as goal
+
+-- it says nothing of a document
+pub returns-in_default : goal.returns-in_default
+returns-in_default c = on_ok_weaker c.note_message.result
+    (λ noted terms before h trail are seen kept.
+    noted terms before h trail are seen.stood kept
+    (subst (λ (w : Raw). IsNoted w h.note) seen.is seen.noted) seen.spoken
+    (sym seen.says ∙ ap (option_map call_view) c.in_default.is)) c.note_message.ensures
+
+-- no answer came late
+pub returns-then-is_empty : goal.returns-then-is_empty
+returns-then-is_empty c = λ terms before h trail are seen kept.
+    edits_quiet terms before h c.args.self.now _ are kept seen.noted.0
+    (sym seen.says ∙ ap (option_map call_view) c.in-Some.is) ?
+
+-- one did
+pub returns : goal.returns
+returns c = on_ok_weaker c.note_call.result (λ noted terms before h trail are seen kept.
+    let events = heard_events before in
+    let event = h.note.event in
+    let raw = raw_view c.args.seen.now.raw in
+    let call = call_view c.in-Some-call.call in
+    let read = subst (λ (w : Raw). IsNoted w h.note) seen.is seen.noted in
+    let place = c.last-place.result in
+    let at = c.last-place.ensures events event
+    (subst (AreCounts c.args.held.now.counts) (events-push before h) seen.stood.counted)
+    (c.who.ensures ∙ sym (whose_read raw event read.0)) in
+    let old = c.args.self.now in
+    let new = c.note_call.new.self in
+    let made = calls_with terms events event in
+    let says = sym seen.says ∙ ap (option_map call_view) c.in-Some-call.is in
+    edits_called terms before h old new call (late_by terms events made place call) are kept
+    seen.noted.0 says (ap (λ p. late_by terms events made p call) (sym at))
+    c.note_call.ensures.asked c.note_call.ensures.late
+    (subst (λ (t : Terms). IsTrail t c.args.trail.now events
+    → lates_view old.late.items ≡ last_answers t events
+    → notes_view new.late_edits.items
+    ≡ with_note (notes_view old.late_edits.items) (late_by t events made place call))
+    seen.stood.by (noted events made ?) trail are.late_are)
+    c.note_call.ensures.others.0 c.note_call.ensures.others.1 c.note_call.ensures.others.2)
+    c.note_call.ensures.late_edits
