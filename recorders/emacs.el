@@ -64,7 +64,7 @@ It also shows the notes that say that a server may have dropped a document."
   (let ((block nil))
     (lambda (process line)
       (setq block (cons line (unless (string-match-p "\\`no [0-9]" line) block)))
-      (when (and (string-prefix-p "usually " line) (process-live-p process)
+      (when (and (string-prefix-p "so " line) (process-live-p process)
                  (seq-some (lambda (said) (string-prefix-p "ends " said)) block))
         (lspcheck--keep file (reverse block))
         (message "lspcheck: %s, line ends alone" (car (last block)))

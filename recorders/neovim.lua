@@ -105,7 +105,7 @@ local function start_alarm(log)
     end
     table.insert(block, line)
     is_of_ends = is_of_ends or line:match("^ends ") ~= nil
-    if is_of_ends and line:match("^usually ") and not said then
+    if is_of_ends and line:match("^so ") and not said then
       said = true
       keep(log, block)
       say(("lspcheck: %s, line ends alone (:buffer %d)"):format(block[1], log.buffer))

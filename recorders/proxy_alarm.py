@@ -71,8 +71,8 @@ class Check(threading.Thread):
             *lines, held = (held + data).split(b"\n")
             for line in lines:
                 self.take(object_of(line))
-            # `usually` is the last line of an explanation, unless more comes at once.
-            is_whole = self.explanation and self.explanation[-1]["is"] == "usually"
+            # `usually` or `so` is the last line of an explanation, unless more comes at once.
+            is_whole = self.explanation and self.explanation[-1]["is"] in ("usually", "so")
             if is_whole and not is_readable(source, PAUSE):
                 self.end_explanation()
 

@@ -160,6 +160,7 @@ const FACTS = {
   byte: ["Place", (it) => [`${it.count} bytes into the log`]],
   found: ["The line there", (it) => [shownText(it.text)]],
   usually: ["Usually", (it) => [`the fault is ${FAULTS[it.who] ?? it.who}`]],
+  so: ["So", (it) => [it.sentence]],
 };
 
 // What says nothing that is not shown elsewhere.

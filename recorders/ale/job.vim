@@ -126,7 +126,7 @@ endfunction
 function! s:HearLineEnds(log, state, channel, line) abort
   let a:state.block = (a:line =~# '^no \d' ? [] : a:state.block) + [a:line]
 
-  if a:line =~# '^usually ' && match(a:state.block, '^ends ') >= 0 && !a:state.is_shown
+  if a:line =~# '^so ' && match(a:state.block, '^ends ') >= 0 && !a:state.is_shown
     let a:state.is_shown = 1
     let l:buffer = s:Keep(a:log, a:state.block)
     call s:Say('lspcheck: ' . a:state.block[0] . ', line ends alone (:buffer ' . l:buffer . ')')

@@ -232,11 +232,14 @@ DIFFERS_FACTS += b"suspect 3 event 5 editor 4\nusually editor\n"
 PARTS_FACTS = b"event 7 snapshot 2\n" + URI_LINE + b"held 3 event 6 editor 4\n" + APART
 PARTS_FACTS += b"snapshot event 7 snapshot 2\nequal 1 event 5 snapshot 1\nsuspects 1\n"
 PARTS_FACTS += b"suspect 3 event 6 editor 4\nusually editor\n"
+PARTS_FACTS += b'so "Either one message is wrong, or one change was never sent."\n'
 EXITS_FACTS = b'event 9 editor 6 notification "exit"\nphase exited\nsince event 8 editor 5\n'
 EXITS_FACTS += b"usually editor\n"
 TAKEN_FACTS = b'event 5 editor 4 request 1 "textDocument/hover"\nid 1\nasked event 4 editor 3\n'
 TAKEN_FACTS += b"answered event 2 server 1\nusually editor\n"
+TAKEN_FACTS += b'so "The id was used again before the first request was answered."\n'
 AGAIN_FACTS = b"event 3 server 2 result 1\nid 1\nanswered event 2 server 1\nusually server\n"
+AGAIN_FACTS += b'so "The request was answered before."\n'
 REST_FACTS = b'end 1 editor\nbegins "abc"\nusually recorder\n'
 
 
@@ -344,6 +347,7 @@ equal 1 event 6 snapshot 1
 suspects 1
 suspect 3 event 9 editor 6
 usually editor
+so "Either one message is wrong, or one change was never sent."
 no 406 editor 9 event 14
 editor message after exit
 event 14 editor 9 notification "exit"

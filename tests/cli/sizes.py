@@ -248,7 +248,8 @@ def sent_twice(change, is_same):
     report = 'no 603 editor 5 event 6\nversion does not rise\nevent 6 editor 5 notification "textDocument/didChange"\n'
     report += f'uri "file:///a"\nheld 2 event 5 editor 4\nsent 2\nchanges {len(change)}\n'
     report += "same event 5 editor 4\n" if is_same else ""
-    return b"".join(log), f"{report}usually editor\n".encode()
+    told = 'so "The editor sent the same changes twice."\n' if is_same else ""
+    return b"".join(log), f"{report}usually editor\n{told}".encode()
 
 
 def saved_before(later):
@@ -259,7 +260,8 @@ def saved_before(later):
     report = f"no 602 editor {later + 4} event {later + 5}\ndocument is not open\n"
     report += f'event {later + 5} editor {later + 4} notification "textDocument/didChange"\nuri "file:///a"\n'
     report += "sent 2\nchanges 0\nopened never\n" + ("saved-as event 4 editor 3\n" if later < 64 else "")
-    return b"".join([*log, did_change(uri, 2, [])]), f"{report}usually editor\n".encode()
+    told = "The editor saved a document under this name, and did not open it." if later < 64 else "The document was never opened."
+    return b"".join([*log, did_change(uri, 2, [])]), f'{report}usually editor\nso "{told}"\n'.encode()
 
 
 def units(text):
@@ -358,7 +360,9 @@ def fitting_changes(beyond):
     report += ["snapshot event 8 snapshot 2", "equal 1 event 5 snapshot 1", "suspects 2"]
     report += ["suspect 2 event 6 editor 4", "suspect 3 event 7 editor 5"]
     report += ["fits utf-32"] if beyond == 0 else []
-    return log, "".join(f"{it}\n" for it in [*report, "usually editor"]).encode()
+    report += ["usually editor"]
+    report += ['so "The editor seems to count columns in utf-32; utf-16 was agreed."'] if beyond == 0 else []
+    return log, "".join(f"{it}\n" for it in report).encode()
 
 
 def padded(size):

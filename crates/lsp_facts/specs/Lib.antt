@@ -1,3 +1,4 @@
+pub mod Sentences
 pub mod Fact
 pub mod Grammar
 pub mod Refuting

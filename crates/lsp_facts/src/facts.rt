@@ -9,6 +9,7 @@ ghost use Rattle.lsp_rpc.specs.Words.{id_text};
 ghost use Rattle.lsp_verdict.specs.Report.{line};
 ghost use Rattle.lsp_facts.specs.Fact as spec;
 ghost use Rattle.lsp_facts.specs.Fact.{part_view};
+ghost use Rattle.lsp_facts.specs.Sentences.{has_line};
 
 use crate::part::Excerpt;
 use lsp_replay::EventPlace;
@@ -53,6 +54,13 @@ impl Facts {
         ensures { result ≡ length self.now }
     {
         self.lines.len()
+    }
+
+    /// Whether some line begins so.
+    pub(crate) fn has_line(&self, front: &str) -> bool
+        ensures { result ≡ has_line self.now front.now }
+    {
+        is_in(self.lines.as_slice(), front)
     }
 
     /// Adds the lines of others.
@@ -253,6 +261,18 @@ fn push_lines(text: &mut String, lines: &[String]) -> Result<()>
         text.push_str(line.as_str())?;
     }
     Ok(())
+}
+
+/// Whether one of these begins so.
+fn is_in(lines: &[String], front: &str) -> bool
+    ensures { result ≡ has_line (map string_bytes lines.now) front.now }
+{
+    for line in lines {
+        if line.as_bytes().starts_with(front.as_bytes()) {
+            return true;
+        }
+    }
+    false
 }
 
 /// A key and a text.

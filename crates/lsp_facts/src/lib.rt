@@ -31,6 +31,7 @@ mod members;
 mod messages;
 mod part;
 mod refused_change;
+mod sentences;
 mod shapes;
 mod text_facts;
 mod two_texts;

@@ -1,26 +1,27 @@
 //! The lines of an explanation.
 ghost use Rattle.std.specs.Prelude.{◌≡◌, ◌++◌, OnOk, string_bytes};
 ghost use Rattle.lsp_rpc.specs.View.{message_view};
-ghost use Rattle.lsp_facts.specs.Fact.{fact_lines};
 ghost use Rattle.lsp_facts.specs.Fact as spec;
 
 use crate::facts::{Facts, push_facts};
+use crate::sentences::push_sentence;
 use lsp_replay::EventPlace;
 use lsp_rpc::{Memory, Message, Result, RpcFault, read, words_of};
 use lsp_verdict::{Who, who_name};
 use std::fmt::Write;
 
-/// Adds the lines of facts, one each, and whose fault that usually is, as
-/// [`usual`](crate::blame::usual) gives it.
+/// Adds the lines of facts, one each, whose fault that usually is, as
+/// [`usual`](crate::blame::usual) gives it, and the sentence that the facts come to, if any.
 ///
 /// # Errors
 /// `Memory` where memory was refused.
 pub fn push_details(lines: &mut String, facts: &Facts, usual: &str) -> Result<()>
     ensures { OnOk result (string_bytes lines.new
-        ≡ string_bytes lines.old ++ (fact_lines facts.now ++ spec.usual_line usual.now)) }
+        ≡ string_bytes lines.old ++ spec.detail_lines facts.now usual.now) }
 {
     push_facts(lines, facts)?;
-    push_usual(lines, usual)
+    push_usual(lines, usual)?;
+    push_sentence(lines, facts)
 }
 
 fn push_usual(lines: &mut String, usual: &str) -> Result<()>

@@ -6,7 +6,7 @@ pub(crate) type Row = (&'static str, &'static str);
 
 /// The rows of the lines of a report: of a verdict, of a log that was not judged, of details, of
 /// notes, and of events.
-pub(crate) const ROWS: [Row; 111] = [
+pub(crate) const ROWS: [Row; 112] = [
     ("yes", "yes"),
     ("yes", "yes remark=nothing-compared"),
     ("read fault", "read fault"),
@@ -102,6 +102,7 @@ pub(crate) const ROWS: [Row; 111] = [
     ("picked", "picked name=*"),
     ("registers", "registers method=*"),
     ("usually", "usually who=*"),
+    ("so", "so sentence=*"),
     ("note", "note note=as-notification method=* @"),
     ("note", "note note=as-request method=* @"),
     ("note", "note note=by-editor method=* @"),

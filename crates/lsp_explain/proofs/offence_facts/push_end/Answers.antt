@@ -4,7 +4,7 @@ use Rattle.lsp_replay.specs.Streams.{decoder_of}
 use Rattle.lsp_explain.specs.Asking.{numbered}
 use Rattle.lsp_verdict.specs.Given.{offence_view}
 use Rattle.lsp_verdict.specs.Report.{report}
-use Rattle.lsp_facts.specs.Fact.{fact_lines, detail_lines, end_event, usual_line}
+use Rattle.lsp_facts.specs.Fact.{detail_lines, end_event}
 use Rattle.lsp_facts.specs.EventFacts.{side_by}
 use Rattle.lsp_explain.specs.ExplainRuns.{rests_held}
 use Rattle.lsp_explain.specs.Explained.{end_facts, end_usually}
@@ -25,9 +25,9 @@ returns c = on_ok_weaker c.push_details.result (λ says before stands.
     ∙ held_rest c.args.log.now (side_by end.who) in
     let who = end_usually rests v in
     says
-    ∙ ap (λ fs. before_it ++ (fact_lines fs ++ usual_line c.end_usually.result.now))
+    ∙ ap (λ fs. before_it ++ detail_lines fs c.end_usually.result.now)
     (c.in_ok-facts.ensures rests before end.who end.number end.event stands rest)
-    ∙ ap (λ (w : List ℕ). before_it ++ (fact_lines facts ++ usual_line w))
+    ∙ ap (λ (w : List ℕ). before_it ++ detail_lines facts w)
     (c.end_usually.ensures rests end.number end.event rest)
     ∙ ap (λ w. w ++ detail_lines facts who) (c.in_ok-push_end_event.ensures
     ∙ ap (λ w. w ++ line) c.in_ok-push_report.ensures)

@@ -4,7 +4,7 @@ use Rattle.std.proofs.lemmas.Result.{on_ok_weaker}
 use Rattle.lsp_replay.specs.LogEvents.{flaw_of}
 use Rattle.lsp_replay.specs.declared.log_events.End.{End}
 use Rattle.lsp_verdict.specs.Verdict.{bad_log_of}
-use Rattle.lsp_facts.specs.Fact.{fact_lines, usual_line}
+use Rattle.lsp_facts.specs.Fact.{detail_lines}
 use Rattle.lsp_facts.specs.EventFacts.{flaw_facts}
 use Rattle.lsp_explain.specs.ExplainRuns.{flaw_held}
 use Rattle.lsp_explain.specs.Explained.{flaw_lines}
@@ -18,7 +18,7 @@ returns c = on_ok_weaker c.push_details.result (λ said.
     let old = string_bytes c.args.text.now in
     let number = c.in-Bad.number in
     said
-    ∙ ap (λ fs. old ++ (fact_lines fs ++ usual_line (codes "recorder"))) (c.in_ok-facts.ensures
+    ∙ ap (λ fs. old ++ detail_lines fs (codes "recorder")) (c.in_ok-facts.ensures
     ∙ ap (λ n. flaw_facts number n c.found.result.now) c.place.ensures
     ∙ ap (flaw_facts number c.args.log.now.log.place) c.found.ensures)
     ∙ ap (λ (e : End). old ++ flaw_lines (bad_log_of (flaw_of e)) (flaw_held c.args.log.now e))

@@ -7,7 +7,7 @@ use Rattle.lsp_verdict.specs.Heard.{heard_events}
 use Rattle.lsp_verdict.specs.Given.{raw_view}
 use Rattle.lsp_verdict.specs.Offences.{IsNoted}
 use Rattle.lsp_verdict.specs.Placed.{Raw}
-use Rattle.lsp_facts.specs.Fact.{fact_lines, usual_line}
+use Rattle.lsp_facts.specs.Fact.{detail_lines}
 use Rattle.lsp_explain.specs.ExplainRuns.{TellsOf}
 use Rattle.lsp_explain.specs.Trails.{terms_in}
 use Rattle.lsp_explain.proofs.Telling.{few_before, placed_by, stands_before, tells_of}
@@ -37,5 +37,5 @@ returns c = on_ok_weaker c.push_details.result (λ says terms before h trail see
     here.spoken here.says fate.1 fate.0 rests shows)
     c.in_ok-push_report.ensures
     (c.in_ok-push_event.ensures h.note.event (kept_before own before) noted.0 here.spoken)
-    (says ∙ ap (λ w. line ++ (fact_lines c.in_ok-facts.facts ++ usual_line w)) c.usual.ensures)))
+    (says ∙ ap (λ w. line ++ detail_lines c.in_ok-facts.facts w) c.usual.ensures)))
     c.push_details.ensures
