@@ -26,7 +26,8 @@ use Rattle.lsp_text.specs.Edits.{Edit, limited, replaced, spliced}
 use Rattle.lsp_text.specs.Findings.{past_by, past_of, text_extent}
 use Rattle.lsp_text.specs.Places.{place_of, units}
 use Rattle.lsp_text.specs.declared.findings.PastEnd.{PastEnd}
-use Rattle.lsp_explain.specs.LateEdits.{most_size, placed, precedes}
+use Rattle.lsp_explain.specs.LateEdits.{are_held, most_size, placed, precedes}
+use Rattle.lsp_explain.specs.SentEdits.{edits_size}
 use Rattle.lsp_explain.specs.TextEdits.{count_of}
 use Rattle.lsp_explain.specs.TextsSince.{contents, is_outside, is_past, not_below, numbers_of}
 use Rattle.lsp_explain.specs.TextsSince.{texts_at, texts_in}
@@ -150,6 +151,17 @@ pub small_edits : (size : ℕ) (left : Option ℕ)
     → is_some left ≡ not (nat_lt most_size size)
 small_edits size None large = large_so size large
 small_edits size (Some l) is = fits_so size l is
+
+-- there are none
+pub none_held : (edits : List Change) → length edits ≡ 0 → false ≡ are_held (edits_of edits)
+none_held [] none = refl
+none_held (e ∷ edits) none = absurd (cc none)
+
+-- there are some
+pub some_held : (edits : List Change) → 0 < length edits
+    → not (nat_lt most_size (edits_size (edits_of edits))) ≡ are_held (edits_of edits)
+some_held [] some = absurd (omega arith)
+some_held (e ∷ edits) some = refl
 
 -- ---- a text whose size is the limit
 

@@ -18,6 +18,8 @@ pub mod Refusing
 pub mod OtherSpellings
 pub mod ServerNoting
 pub mod EditedTexts
+pub mod LateSteps
+pub mod EditedMessages
 pub mod Changing
 pub mod LaterChanges
 pub mod SentChanges

@@ -68,7 +68,7 @@ calls None = false
 calls (Some m) = is_call m
 
 -- the params of the message that these parts make
-made_with : (b : Bool) (name : Option (List ℕ)) (id : Option Ident) (own : Option Data)
+pub made_with : (b : Bool) (name : Option (List ℕ)) (id : Option Ident) (own : Option Data)
     (answer : Option Reply) (m : Message)
     → (if b then option_map (λ method. rpc.call method id own) name else option_map (response id) answer)
     ≡ Some m

@@ -692,6 +692,24 @@ asks_edits p bytes (notification name params) id method reads same = absurd (cc 
 asks_edits p bytes (response own (result d)) id method reads same = absurd (cc same)
 asks_edits p bytes (response own (error code)) id method reads same = absurd (cc same)
 
+module _ (p : EventPlace) (method : List ℕ) (named : Option (List ℕ)) where
+  abbrev asked_by : Bool → Bool → Option EditRequest
+  asked_by rename formatting =
+      if rename then Some (edit_request p None)
+      else (if formatting then option_map (λ uri. edit_request p (Some uri)) named else None)
+
+  pub asks_rename : is_rename method ≡ true
+      → request_named p method named ≡ Some (edit_request p None)
+  asks_rename is = ap (λ b. asked_by b (is_formatting method)) is
+
+  pub asks_other : is_rename method ≡ false → is_formatting method ≡ false
+      → request_named p method named ≡ None
+  asks_other no also = λ i. asked_by (no i) (also i)
+
+  pub asks_format : is_rename method ≡ false → is_formatting method ≡ true
+      → request_named p method named ≡ option_map (λ uri. edit_request p (Some uri)) named
+  asks_format no is = λ i. asked_by (no i) (is i)
+
 -- one that is no request
 pub asks_nothing : (p : EventPlace) (m : Message) (said : lent.Message)
     → outline m ≡ outline (message_view said)

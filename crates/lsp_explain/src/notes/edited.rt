@@ -81,11 +81,7 @@ pub(crate) fn edited_by(
         Message::Notification { method, .. } => {
             in_notification(now.docs.alloc(), now.place, method.as_str(), content)
         }
-        Message::Response {
-            id: Some(id),
-            answer: Answer::Result(_),
-        } => in_answer(now, asked, id, content),
-        Message::Response { .. } => Ok(Vec::new(now.docs.alloc())),
+        Message::Response { id, .. } => in_response(now, asked, id, content),
     }
 }
 
@@ -100,7 +96,7 @@ fn in_request(now: Now<'_>, method: &str, content: &[u8]) -> Result<Vec<Edited>>
         now.entry.place method.now (params_of m)) }
 {
     let alloc = now.docs.alloc();
-    if method != "workspace/applyEdit" {
+    if !is_apply_edit(method) {
         return Ok(Vec::new(alloc));
     }
     match read(alloc, content) {
@@ -112,6 +108,12 @@ fn in_request(now: Now<'_>, method: &str, content: &[u8]) -> Result<Vec<Edited>>
         Err(RpcFault::Rule(_)) => Ok(Vec::new(alloc)),
         Err(RpcFault::Memory) => Err(Memory),
     }
+}
+
+fn is_apply_edit(method: &str) -> bool
+    ensures { result ≡ spec.is_apply_edit method.now }
+{
+    method == "workspace/applyEdit"
 }
 
 /// What the edit among the params of a message has.
@@ -140,6 +142,25 @@ fn edit_of(message: &Message) -> Option<&Value>
 }
 
 // ---- answers
+
+/// What the response with this id, or with none, has.
+fn in_response(
+    now: Now<'_>,
+    asked: &VecDeque<EditRequest>,
+    id: &Option<Id>,
+    content: &[u8],
+) -> Result<Vec<Edited>>
+    ensures { IfOk result (λ edited. (terms : Terms) (before : List Event) (event : Event)
+        (m : AMessage) → IsNow terms before event now.entry
+        → requests_view asked.now.items ≡ last_requests terms before → Reads content.now m
+        → map edited_view edited.items ≡ spec.in_whole (uris_with terms before event)
+        (spec.answered terms before (option_map id_view id.now)) m) }
+{
+    match id {
+        Some(id) => in_answer(now, asked, id, content),
+        None => Ok(Vec::new(now.docs.alloc())),
+    }
+}
 
 /// What the answer to the request with this id has, if edits answer it.
 fn in_answer(

@@ -1,6 +1,6 @@
 //! Edits that were made in a text that had changed since they were asked for.
-ghost use Rattle.std.specs.Prelude.{◌≡◌, ◌≤◌, ◌++◌, [], List, IfOk, OnOk, length, option_map};
-ghost use Rattle.std.specs.Prelude.{string_bytes};
+ghost use Rattle.std.specs.Prelude.{◌≡◌, ◌≤◌, ◌++◌, [], List, IfOk, OnOk, length, nat_lt, not};
+ghost use Rattle.std.specs.Prelude.{option_map, string_bytes};
 ghost use Rattle.std.specs.List.{cons_option, flat_map, prefix_len};
 ghost use Rattle.std.specs.Str.{bytes_eq};
 ghost use Rattle.lsp_docs.specs.Calls.{Call as SpecCall};
@@ -10,6 +10,8 @@ ghost use Rattle.lsp_docs.specs.State.{Stands};
 ghost use Rattle.lsp_explain.specs.History.{last_that};
 ghost use Rattle.lsp_explain.specs.LateEdits as spec;
 ghost use Rattle.lsp_explain.specs.LateEdits.{HoldsLate, late_view, lates_view};
+ghost use Rattle.lsp_explain.specs.Marking.{last_setter};
+ghost use Rattle.lsp_explain.specs.SentEdits.{edits_size};
 ghost use Rattle.lsp_explain.specs.TextsSince.{contents};
 ghost use Rattle.lsp_facts.specs.Fact.{place_words, spaced};
 ghost use Rattle.lsp_text.specs.Changes.{edit_of, edits_of};
@@ -61,7 +63,7 @@ pub(crate) fn note_late(
     ensures { OnOk result (HoldsLate (cons_option (spec.if_late uri.now asked answered
         (contents texts.now) (edits_of edits.now)) []) late.old.items late.new.items) }
 {
-    if texts.len() < 2 {
+    if !has_changed(texts) {
         return Ok(());
     }
     if !are_held(edits) {
@@ -79,11 +81,27 @@ pub(crate) fn note_late(
     push_within(late, MOST_LATE, answer)
 }
 
+/// Whether a document that had these texts changed.
+fn has_changed(texts: &[Lined]) -> bool
+    ensures { result ≡ spec.has_changed (contents texts.now) }
+{
+    texts.len() > 1
+}
+
 /// Whether there are edits, and they are small enough.
 fn are_held(edits: &[Change]) -> bool
     ensures { result ≡ spec.are_held (edits_of edits.now) }
 {
-    !edits.is_empty() && room_after(MOST_SIZE, edits).is_some()
+    if edits.is_empty() {
+        return false;
+    }
+    are_small(edits)
+}
+
+fn are_small(edits: &[Change]) -> bool
+    ensures { result ≡ not (nat_lt spec.most_size (edits_size (edits_of edits.now))) }
+{
+    room_after(MOST_SIZE, edits).is_some()
 }
 
 /// The words of a note on a change of this document, if it is what the edits of the last answer
@@ -103,13 +121,22 @@ pub(crate) fn words_since(
         → option_map string_bytes words ≡ spec.words_since docs.now.terms made uri.now encoding
         setters.now (lates_view late.now.items)) }
 {
-    let Some(setter) = setters.last() else {
+    let Some(setter) = last_of(setters) else {
         return Ok(None);
     };
-    let Some(answer) = late_since(late, uri, *setter) else {
+    let Some(answer) = late_since(late, uri, setter) else {
         return Ok(None);
     };
     words_if_late(docs, uri, encoding, setters, setter.version, answer)
+}
+
+fn last_of(setters: &[VersionEvent]) -> Option<VersionEvent>
+    ensures { result ≡ last_setter setters.now }
+{
+    match setters.last() {
+        Some(setter) => Some(*setter),
+        None => None,
+    }
 }
 
 /// The last of these answers that is on this document, and came after this message.

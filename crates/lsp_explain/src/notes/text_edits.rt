@@ -1,5 +1,5 @@
 //! Edits of texts as servers send them (LSP 3.17, TextEdit and WorkspaceEdit).
-ghost use Rattle.std.specs.Prelude.{◌≡◌, IfOk, codes, option_and_then, option_map};
+ghost use Rattle.std.specs.Prelude.{◌≡◌, IfOk, codes, nat_lt, option_and_then, option_map};
 ghost use Rattle.serde_json.specs.Find.{as_array};
 ghost use Rattle.serde_json.specs.View.{items_view, view};
 ghost use Rattle.lsp_explain.specs.TextEdits as spec;
@@ -150,10 +150,17 @@ fn few_edits(alloc: Global, items: &[Value]) -> Result<Option<Vec<Change>>>
     ensures { IfOk result (λ edits. option_map (λ v. edits_of v.items) edits
         ≡ spec.few_edits (items_view items.now)) }
 {
-    if items.len() > MOST_EDITS {
+    if are_many(items) {
         return Ok(None);
     }
     each_edit(alloc, items)
+}
+
+/// Whether there are too many.
+fn are_many(items: &[Value]) -> bool
+    ensures { result ≡ nat_lt spec.most_edits (spec.count_of (items_view items.now)) }
+{
+    items.len() > MOST_EDITS
 }
 
 fn each_edit(alloc: Global, items: &[Value]) -> Result<Option<Vec<Change>>>
