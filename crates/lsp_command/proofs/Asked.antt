@@ -1,5 +1,5 @@
 -- What commands ask for, by what was found of their arguments.
-use Rattle.std.proofs.Common.{◌≡◌, ◌∙◌, ◌<◌, ◌==◌, ◌^◌, ℕ, Bool, true, false, List}
+use Rattle.std.proofs.Common.{◌≡◌, ◌∙◌, ◌<◌, ◌==◌, ◌^◌, ℕ, false, List}
 use Rattle.std.proofs.Common.{option_map, Option, Some, None, Result, refl, sym, ap}
 use Rattle.std.proofs.Common.{subst, codes, arith, slice_index}
 use Rattle.std.specs.Prelude.{MatchOption, unwrap_or}
@@ -13,11 +13,11 @@ use Rattle.clap.specs.Words.{ReadsOne, Row, Text, all_of, matched_of, one_of, on
 use Rattle.clap.specs.Words.{rows_of}
 use Rattle.clap.specs.declared.parser.matches.Found.{Found}
 use Rattle.clap.proofs.WalkLemmas.{one_text-rows, raw_values-rows}
-use Rattle.lsp_verdict.specs.declared.lines.Lines.{Lines}
-use Rattle.lsp_command.specs.Words.{AsksCheck, AsksExplain, AsksShow, AsksText, GivesNumber}
-use Rattle.lsp_command.specs.Words.{HasTask, IsFlag, NumberIn, check_of, compared_of}
-use Rattle.lsp_command.specs.Words.{completeness_of, explain_of, inputs_of, listing_of, show_of}
-use Rattle.lsp_command.specs.Words.{text_of}
+use Rattle.lsp_command.specs.Words.{AsksText, GivesNumber}
+use Rattle.lsp_command.specs.Words.{HasTask, NumberIn}
+use Rattle.lsp_command.specs.Words.{inputs_of}
+use Rattle.lsp_command.specs.declared.command_line.task.Extent.{Extent}
+use Rattle.lsp_command.specs.declared.command_line.task.Rewrite.TheVariants as rewrites
 use Rattle.lsp_command.specs.declared.command_line.task.Task.{Task}
 use Rattle.lsp_command.specs.declared.command_line.task.Task.TheVariants as tasks
 
@@ -75,129 +75,35 @@ number_made rows n (Some x) read is = record {
 
 -- ---- tasks
 
-asked_check : (rows : List Row) (complete all every : Bool) → IsFlag (one_of (codes "complete") rows) complete → IsFlag (one_of (codes "all") rows) all → IsFlag (one_of (codes "every") rows) every
-    → AsksCheck rows (completeness_of complete) (listing_of all every)
-asked_check rows complete all every a b c = record {
-  complete = complete;
-  all = all;
-  every = every;
-  complete_is = a;
-  all_is = b;
-  every_is = c;
-  completeness_is = refl;
-  listing_is = refl;
-}
-
-pub asks_check : (rows : List Row) (complete all every : Bool) → IsFlag (one_of (codes "complete") rows) complete → IsFlag (one_of (codes "all") rows) all → IsFlag (one_of (codes "every") rows) every
-    → HasTask (codes "check") rows (check_of (completeness_of complete) (listing_of all every))
-asks_check rows complete all true a b c = record { command = refl; arguments = asked_check rows complete all true a b c }
-asks_check rows complete true false a b c = record { command = refl; arguments = asked_check rows complete true false a b c }
-asks_check rows complete false false a b c = record { command = refl; arguments = asked_check rows complete false false a b c }
-
-module _ (rows : List Row) (complete : Bool)
-    (a : IsFlag (one_of (codes "complete") rows) complete) where
-  asked_explain : (all notes by_messages in_editor : Bool) → IsFlag (one_of (codes "all") rows) all
-      → IsFlag (one_of (codes "notes") rows) notes
-      → IsFlag (one_of (codes "by-messages") rows) by_messages
-      → IsFlag (one_of (codes "in-editor") rows) in_editor
-      → AsksExplain rows (completeness_of complete) all notes (compared_of by_messages in_editor)
-  asked_explain all notes by_messages in_editor b n d e = record {
-    complete = complete;
-    by_messages = by_messages;
-    in_editor = in_editor;
-    complete_is = a;
-    all_is = b;
-    notes_is = n;
-    by_messages_is = d;
-    in_editor_is = e;
-    completeness_is = refl;
-    text_is = refl;
-  }
-
-  pub asks_explain : (all notes by_messages in_editor : Bool)
-      → IsFlag (one_of (codes "all") rows) all → IsFlag (one_of (codes "notes") rows) notes
-      → IsFlag (one_of (codes "by-messages") rows) by_messages
-      → IsFlag (one_of (codes "in-editor") rows) in_editor
-      → HasTask (codes "explain") rows
-      (explain_of (completeness_of complete) all notes (compared_of by_messages in_editor))
-  asks_explain all notes true in_editor b n d e = record {
-    command = refl;
-    arguments = (
-      completeness_of complete,
-      all,
-      notes,
-      asked_explain all notes true in_editor b n d e,
-    );
-  }
-  asks_explain all notes false true b n d e = record {
-    command = refl;
-    arguments = (
-      completeness_of complete,
-      all,
-      notes,
-      asked_explain all notes false true b n d e,
-    );
-  }
-  asks_explain true true false false b n d e =
-      record { command = refl; arguments = asked_explain true true false false b n d e }
-  asks_explain true false false false b n d e =
-      record { command = refl; arguments = asked_explain true false false false b n d e }
-  asks_explain false notes false false b n d e =
-      record { command = refl; arguments = (notes, asked_explain false notes false false b n d e) }
-
-pub asks_show : (rows : List Row) (lines : Lines) (all : Bool) → AsksShow rows lines all
-    → HasTask (codes "show") rows (show_of lines all)
-asks_show rows lines true asked = record { command = refl; arguments = asked }
-asks_show rows lines false asked = record { command = refl; arguments = asked }
-
-pub asks_text : (rows : List Row) (number : NonZeroU64) (uri : Bor Text) (all : Bool)
-    → AsksText rows number uri all → HasTask (codes "text") rows (text_of number uri all)
-asks_text rows number uri true asked = record { command = refl; arguments = asked }
-asks_text rows number uri false asked = record { command = refl; arguments = asked }
-
 -- texts that differ in their fourth byte
 apart : (a b : Text) → (slice_index a 3 == slice_index b 3) ≡ false → a ≡ b → ⊥
 apart a b differ same = eqb-false _ _ differ (ap (λ (t : Text). slice_index t 3) same)
 
 pub no_text : (rows : List Row)
-    → ((number : NonZeroU64) (uri : Bor Text) (all : Bool) → AsksText rows number uri all → ⊥)
+    → ((number : NonZeroU64) (uri : Bor Text) (extent : Extent) → AsksText rows number uri extent → ⊥)
     → (task : Task) → HasTask (codes "text") rows task → ⊥
-no_text rows none (tasks.Check a) h = apart _ _ refl h.command
-no_text rows none (tasks.CheckLine a b) h = apart _ _ refl h.command
-no_text rows none (tasks.Survey a b) h = apart _ _ refl h.command
-no_text rows none (tasks.Explain a) h = apart _ _ refl h.command
-no_text rows none (tasks.ExplainAll a) h = apart _ _ refl h.command
-no_text rows none (tasks.ExplainNoted a) h = apart _ _ refl h.command
+no_text rows none (tasks.Check a b form) h = apart _ _ refl h.command
+no_text rows none (tasks.Explain a b form) h = apart _ _ refl h.command
 no_text rows none (tasks.Compared a) h = apart _ _ refl h.command
-no_text rows none (tasks.Show a) h = apart _ _ refl h.command
-no_text rows none (tasks.ShowAll a) h = apart _ _ refl h.command
-no_text rows none (tasks.Text number uri) h = none number uri false h.arguments
-no_text rows none (tasks.TextAll number uri) h = none number uri true h.arguments
+no_text rows none (tasks.Show a b form) h = apart _ _ refl h.command
+no_text rows none (tasks.Text number uri extent) h = none number uri extent h.arguments
 no_text rows none (tasks.Event number) h = apart _ _ refl h.command
-no_text rows none tasks.Normal h = apart _ _ refl h.command
-no_text rows none tasks.Upgrade h = apart _ _ refl h.command
-no_text rows none tasks.Redact h = apart _ _ refl h.command
+no_text rows none (tasks.Rewrite rewrites.Normal) h = apart _ _ refl h.command
+no_text rows none (tasks.Rewrite rewrites.Upgrade) h = apart _ _ refl h.command
+no_text rows none (tasks.Rewrite rewrites.Redact) h = apart _ _ refl h.command
 no_text rows none (tasks.Frames mode) h = apart _ _ refl h.command
-no_text rows none (tasks.Json report) h = absurd h.arguments
 
 pub no_event : (rows : List Row) → ((n : ℕ) → GivesNumber rows n → ⊥) → (task : Task) → HasTask (codes "event") rows task → ⊥
-no_event rows none (tasks.Check a) h = apart _ _ refl h.command
-no_event rows none (tasks.CheckLine a b) h = apart _ _ refl h.command
-no_event rows none (tasks.Survey a b) h = apart _ _ refl h.command
-no_event rows none (tasks.Explain a) h = apart _ _ refl h.command
-no_event rows none (tasks.ExplainAll a) h = apart _ _ refl h.command
-no_event rows none (tasks.ExplainNoted a) h = apart _ _ refl h.command
+no_event rows none (tasks.Check a b form) h = apart _ _ refl h.command
+no_event rows none (tasks.Explain a b form) h = apart _ _ refl h.command
 no_event rows none (tasks.Compared a) h = apart _ _ refl h.command
-no_event rows none (tasks.Show a) h = apart _ _ refl h.command
-no_event rows none (tasks.ShowAll a) h = apart _ _ refl h.command
-no_event rows none (tasks.Text number uri) h = apart _ _ refl h.command
-no_event rows none (tasks.TextAll number uri) h = apart _ _ refl h.command
+no_event rows none (tasks.Show a b form) h = apart _ _ refl h.command
+no_event rows none (tasks.Text number uri extent) h = apart _ _ refl h.command
 no_event rows none (tasks.Event number) h = none (non_zero_u64_get number) h.arguments
-no_event rows none tasks.Normal h = apart _ _ refl h.command
-no_event rows none tasks.Upgrade h = apart _ _ refl h.command
-no_event rows none tasks.Redact h = apart _ _ refl h.command
+no_event rows none (tasks.Rewrite rewrites.Normal) h = apart _ _ refl h.command
+no_event rows none (tasks.Rewrite rewrites.Upgrade) h = apart _ _ refl h.command
+no_event rows none (tasks.Rewrite rewrites.Redact) h = apart _ _ refl h.command
 no_event rows none (tasks.Frames mode) h = apart _ _ refl h.command
-no_event rows none (tasks.Json report) h = absurd h.arguments
 
 -- ---- what is to be read
 

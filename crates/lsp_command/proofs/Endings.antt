@@ -6,11 +6,9 @@ use Rattle.lsp_verdict.specs.Runs.{CountsFaults, Ports, failures_read as source_
 use Rattle.lsp_verdict.specs.Runs.{failures_written as sink_failures}
 use Rattle.lsp_verdict.specs.declared.outcome.Outcome.{Outcome}
 use Rattle.lsp_verdict.specs.declared.outcome.RunFault.{RunFault}
-use Rattle.lsp_json_run.specs.JsonRun.{WritesJson, json_run}
-use Rattle.lsp_replay.specs.Run.{Passes, Run}
-use Rattle.lsp_command.specs.Tasks.{of_event, of_run, Answers, RanTask, WritesReport}
-use Rattle.lsp_command.specs.declared.command_line.task.Report.{Report}
-use Rattle.lsp_command.specs.declared.command_line.task.Report.TheVariants as reports
+use Rattle.lsp_replay.specs.Run.{PassesOn, Run}
+use Rattle.lsp_command.specs.Tasks.{Answers, RanTask}
+use Rattle.lsp_command.specs.Tasks.{of_event, of_run}
 use Rattle.lsp_command.specs.declared.command_line.task.Task.{Task}
 use Rattle.lsp_command.specs.declared.task_outcome.TaskOutcome.{TaskOutcome}
 
@@ -33,32 +31,13 @@ module _ (limits : Bounds) (task : Task) (p : Ports) (result : Result TaskOutcom
   run_ended (Ok outcome) is counts = ran_as _ is counts.source_failures counts.sink_failures
   run_ended (Err fault) is counts = ran_as _ is counts.source_failures counts.sink_failures
 
+  -- of a run that does what its definition says
+  pub passed : (run : Run) (ended : Result Outcome RunFault) → result ≡ of_run ended
+      → PassesOn run limits p ended → Answers limits task p result → RanTask limits task p result
+  passed run (Ok outcome) is passes = ran_as _ is passes.failures passes.wrote.failures
+  passed run (Err fault) is passes = ran_as _ is passes.source passes.sink
+
   pub event_ended : (ended : Result EventOutcome RunFault) → result ≡ of_event ended
       → CountsFaults limits p ended → Answers limits task p result → RanTask limits task p result
   event_ended (Ok outcome) is counts = ran_as _ is counts.source_failures counts.sink_failures
   event_ended (Err fault) is counts = ran_as _ is counts.source_failures counts.sink_failures
-
-  -- of a pass
-  pub passes_ended : (run : Run) (ended : Result Outcome RunFault) → result ≡ of_run ended
-      → Passes run limits p.source_before p.source_after p.sink_before p.sink_after ended
-      → Answers limits task p result → RanTask limits task p result
-  passes_ended run (Ok outcome) is passes = ran_as _ is passes.failures passes.wrote.failures
-  passes_ended run (Err fault) is passes = ran_as _ is passes.source passes.sink
-
-  -- of a run that writes JSON
-  json_ended : (run : Run) (ended : Result Outcome RunFault) → result ≡ of_run ended
-      → WritesJson run limits p ended → Answers limits task p result → RanTask limits task p result
-  json_ended run ended is writes = passes_ended (json_run run) ended is writes
-
-  pub report_ended : (report : Report) (ended : Result Outcome RunFault) → result ≡ of_run ended
-      → WritesReport limits report p ended → Answers limits task p result
-      → RanTask limits task p result
-  report_ended (reports.Check completeness) ended is writes = json_ended _ ended is writes
-  report_ended (reports.CheckLine completeness file) ended is writes =
-      run_ended ended is writes.counts
-  report_ended (reports.Survey completeness listing) ended is writes = json_ended _ ended is writes
-  report_ended (reports.Explain completeness) ended is writes = json_ended _ ended is writes
-  report_ended (reports.ExplainAll completeness) ended is writes = json_ended _ ended is writes
-  report_ended (reports.ExplainNoted completeness) ended is writes = json_ended _ ended is writes
-  report_ended (reports.Show lines) ended is writes = json_ended _ ended is writes
-  report_ended (reports.ShowAll lines) ended is writes = json_ended _ ended is writes

@@ -15,8 +15,9 @@ use Rattle.lsp_verdict.specs.declared.outcome.RunFault.TheVariants.{Read, Write,
 use Rattle.lsp_verdict.specs.declared.verdict.Verdict.{Verdict}
 use Rattle.lsp_verdict.specs.declared.verdict.Verdict.TheVariants.{Yes}
 use Rattle.lsp_command.specs.declared.command_line.task.Task.{Task}
-use Rattle.lsp_command.specs.declared.command_line.task.Task.TheVariants.{Text, TextAll, Normal, Compared}
-use Rattle.lsp_command.specs.declared.command_line.task.Task.TheVariants.{Upgrade, Redact, Frames}
+use Rattle.lsp_command.specs.declared.command_line.task.Rewrite.TheVariants.{Normal, Redact, Upgrade}
+use Rattle.lsp_command.specs.declared.command_line.task.Task.TheVariants.{Compared, Frames, Rewrite}
+use Rattle.lsp_command.specs.declared.command_line.task.Task.TheVariants.{Text}
 
 -- the fixed words for how a task ended
 abbrev pub remark_of : Result TaskOutcome RunFault → Option (List ℕ)
@@ -44,12 +45,11 @@ report_refused v = Some (report (verdict_view v))
 -- and `redact` and where one of two texts is written, of one other than Yes in `upgrade`, and that
 -- of a stream in `frames --as canonical`
 abbrev pub run_report_apart : Task → Outcome → Option (List ℕ)
-run_report_apart (Text number uri) (Judged v) = Some (report (verdict_view v))
-run_report_apart (TextAll number uri) (Judged v) = Some (report (verdict_view v))
+run_report_apart (Text number uri extent) (Judged v) = Some (report (verdict_view v))
 run_report_apart (Compared which) (Judged v) = Some (report (verdict_view v))
-run_report_apart Normal (Judged v) = Some (report (verdict_view v))
-run_report_apart Upgrade (Judged v) = report_refused v
-run_report_apart Redact (Judged v) = Some (report (verdict_view v))
+run_report_apart (Rewrite Normal) (Judged v) = Some (report (verdict_view v))
+run_report_apart (Rewrite Upgrade) (Judged v) = report_refused v
+run_report_apart (Rewrite Redact) (Judged v) = Some (report (verdict_view v))
 run_report_apart (Frames Canonical) (Stream frame fault) = Some (stream_report frame fault)
 run_report_apart task outcome = None
 

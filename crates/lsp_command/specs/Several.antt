@@ -17,30 +17,16 @@ use Rattle.lsp_command.specs.declared.command_line.task.Task.TheVariants as task
 
 -- one input of several is judged by a line with its name
 abbrev pub line_task : Task → Bor Text → Task
-line_task (tasks.Check completeness) name = tasks.CheckLine completeness name
+line_task (tasks.Check completeness report form) name =
+    tasks.Check completeness (reports.Line name) form
 line_task task name = task
-
--- the task that writes as JSON what this one writes, where there is one
-abbrev pub json_task : Task → Task
-json_task (tasks.Check completeness) = tasks.Json (reports.Check completeness)
-json_task (tasks.CheckLine completeness name) = tasks.Json (reports.CheckLine completeness name)
-json_task (tasks.Survey completeness listing) = tasks.Json (reports.Survey completeness listing)
-json_task (tasks.Explain completeness) = tasks.Json (reports.Explain completeness)
-json_task (tasks.ExplainAll completeness) = tasks.Json (reports.ExplainAll completeness)
-json_task (tasks.ExplainNoted completeness) = tasks.Json (reports.ExplainNoted completeness)
-json_task (tasks.Show lines) = tasks.Json (reports.Show lines)
-json_task (tasks.ShowAll lines) = tasks.Json (reports.ShowAll lines)
-json_task task = task
-
-abbrev pub in_form : Bool → Task → Task
-in_form json task = if json then json_task task else task
 
 abbrev pub is_several : Request → Bool
 is_several request = nat_lt 1 (length request.inputs.items)
 
 -- a list of violations is asked for
 abbrev pub is_listing : Task → Bool
-is_listing (tasks.Survey completeness listing) = true
+is_listing (tasks.Check completeness (reports.Offences listing) form) = true
 is_listing task = false
 
 -- one of two texts is asked for

@@ -17,23 +17,14 @@ only_word (program ∷ word ∷ other ∷ words) = None
 
 -- the URI whose document a task asks for
 abbrev pub uri_of : Task → Option Text
-uri_of (tasks.Text number uri) = Some uri.now
-uri_of (tasks.TextAll number uri) = Some uri.now
-uri_of (tasks.Check completeness) = None
-uri_of (tasks.CheckLine completeness name) = None
-uri_of (tasks.Survey completeness listing) = None
-uri_of (tasks.Explain completeness) = None
-uri_of (tasks.ExplainAll completeness) = None
-uri_of (tasks.ExplainNoted completeness) = None
+uri_of (tasks.Text number uri extent) = Some uri.now
+uri_of (tasks.Check completeness report form) = None
+uri_of (tasks.Explain completeness explanation form) = None
 uri_of (tasks.Compared which) = None
-uri_of (tasks.Show lines) = None
-uri_of (tasks.ShowAll lines) = None
+uri_of (tasks.Show lines extent form) = None
 uri_of (tasks.Event number) = None
-uri_of tasks.Normal = None
-uri_of tasks.Upgrade = None
-uri_of tasks.Redact = None
+uri_of (tasks.Rewrite rewrite) = None
 uri_of (tasks.Frames mode) = None
-uri_of (tasks.Json report) = None
 
 -- the URI whose document a request asks for, if it reads standard input
 abbrev pub uri_alone : Request → Option Text

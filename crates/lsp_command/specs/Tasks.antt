@@ -4,12 +4,14 @@ use Rattle.std.specs.Int.NonZero.{non_zero_u64_get}
 use Rattle.lsp_extract.specs.declared.event.EventOutcome.{EventOutcome}
 use Rattle.lsp_extract.specs.Event.{GivesEvent}
 use Rattle.lsp_extract.specs.Normal.{Normalizes}
-use Rattle.lsp_json_run.specs.JsonRun.{WritesJson}
+use Rattle.lsp_json_run.specs.JsonRun.{WritesJson, run_in}
+use Rattle.lsp_json_run.specs.declared.form.Form.TheVariants as forms
 use Rattle.lsp_judge.specs.Checked.{Checked, CheckedLine}
 use Rattle.lsp_judge.specs.JudgingRun.{check_run, show_run}
 use Rattle.lsp_judge.specs.Objects.{CheckedObject}
 use Rattle.lsp_judge.specs.ShownLog.{Showed, UpgradesLog}
 use Rattle.lsp_extract.specs.Stream.{RunsFrames}
+use Rattle.lsp_verdict.specs.declared.lines.Lines.{Lines}
 use Rattle.lsp_verdict.specs.declared.outcome.Outcome.{Outcome}
 use Rattle.lsp_verdict.specs.declared.outcome.RunFault.{RunFault}
 use Rattle.lsp_verdict.specs.Runs.{Ports, failures_read as source_failures}
@@ -19,28 +21,24 @@ use Rattle.lsp_verdict.specs.declared.outcome.RunFault.TheVariants as faults
 use Rattle.lsp_frame.specs.Bounds.{Bounds}
 use Rattle.lsp_frame.specs.Told.{Told, CountsFailure, KeepsBytes}
 use Rattle.lsp_frame.specs.declared.io.Failed.{Failed}
+use Rattle.lsp_replay.specs.Run.{PassesOn}
 use Rattle.lsp_replay.specs.TextAnswers.{WritesText}
-use Rattle.lsp_explain.specs.AllNotes.{ExplainsNoted, noted_run}
+use Rattle.lsp_explain.specs.AllNotes.{noted_run}
 use Rattle.lsp_explain.specs.ExplainRuns.{all_run, explain_run}
-use Rattle.lsp_explain.specs.Explained.{ExplainsAll, WritesExplanation}
-use Rattle.lsp_explain.specs.Compared.{AnswersCompared}
+use Rattle.lsp_explain.specs.Compared.{compared_run}
 use Rattle.lsp_redact.specs.Redacted.{Redacts}
-use Rattle.lsp_survey.specs.AllShown.{ShowsAll}
-use Rattle.lsp_survey.specs.KeptText.{AnswersKept}
-use Rattle.lsp_survey.specs.Reported.{SurveysLog}
+use Rattle.lsp_survey.specs.KeptText.{kept_text_run}
 use Rattle.lsp_survey.specs.SurveyRun.{report_run, show_all_run}
 use Rattle.lsp_command.specs.declared.task_outcome.TaskOutcome.{TaskOutcome}
 use Rattle.lsp_command.specs.declared.task_outcome.TaskOutcome.TheVariants as outcomes
-use Rattle.lsp_command.specs.declared.command_line.task.Report.{Report}
+use Rattle.lsp_command.specs.declared.command_line.task.Explanation.TheVariants as explanations
+use Rattle.lsp_command.specs.declared.command_line.task.Extent.TheVariants.{All, First}
 use Rattle.lsp_command.specs.declared.command_line.task.Report.TheVariants as reports
+use Rattle.lsp_command.specs.declared.command_line.task.Rewrite.TheVariants.{Normal, Redact, Upgrade}
 use Rattle.lsp_command.specs.declared.command_line.task.Task.{Task}
-use Rattle.lsp_command.specs.declared.command_line.task.Task.TheVariants.{Check, CheckLine, Survey}
-use Rattle.lsp_command.specs.declared.command_line.task.Task.TheVariants.{Explain, ExplainAll}
-use Rattle.lsp_command.specs.declared.command_line.task.Task.TheVariants.{ExplainNoted}
-use Rattle.lsp_command.specs.declared.command_line.task.Task.TheVariants.{Compared, Show, ShowAll}
-use Rattle.lsp_command.specs.declared.command_line.task.Task.TheVariants.{Text, TextAll, Event}
-use Rattle.lsp_command.specs.declared.command_line.task.Task.TheVariants.{Normal, Upgrade, Redact}
-use Rattle.lsp_command.specs.declared.command_line.task.Task.TheVariants.{Frames, Json}
+use Rattle.lsp_command.specs.declared.command_line.task.Task.TheVariants.{Check, Compared, Event}
+use Rattle.lsp_command.specs.declared.command_line.task.Task.TheVariants.{Explain, Frames, Rewrite}
+use Rattle.lsp_command.specs.declared.command_line.task.Task.TheVariants.{Show, Text}
 
 -- ---- how a task ends, by how its run ended
 
@@ -58,52 +56,41 @@ of_event (Err fault) = Err fault
 abbrev pub EndsRun : (Result Outcome RunFault → Type 0) → Result TaskOutcome RunFault → Type 0
 EndsRun Ends result = (ended : Result Outcome RunFault) × (result ≡ of_run ended) × Ends ended
 
--- **a report is written as JSON by the run of its name**, with its arguments
-abbrev pub WritesReport : Bounds → Report → Ports → Result Outcome RunFault → Type 0
-WritesReport limits (reports.Check completeness) p ended =
-    WritesJson (check_run completeness) limits p ended
-WritesReport limits (reports.CheckLine completeness file) p ended =
-    CheckedObject completeness limits file.now p ended
-WritesReport limits (reports.Survey completeness listing) p ended =
-    WritesJson (report_run completeness listing) limits p ended
-WritesReport limits (reports.Explain completeness) p ended =
-    WritesJson (explain_run completeness) limits p ended
-WritesReport limits (reports.ExplainAll completeness) p ended =
-    WritesJson (all_run completeness) limits p ended
-WritesReport limits (reports.ExplainNoted completeness) p ended =
-    WritesJson (noted_run completeness) limits p ended
-WritesReport limits (reports.Show lines) p ended = WritesJson (show_run lines) limits p ended
-WritesReport limits (reports.ShowAll lines) p ended = WritesJson (show_all_run lines) limits p ended
-
 -- **each task is the run of its name**, with its arguments, on this input and into this output
 abbrev pub Answers : Bounds → Task → Ports → Result TaskOutcome RunFault → Type 0
-Answers limits (Check completeness) p result = EndsRun (Checked completeness limits p) result
-Answers limits (CheckLine completeness name) p result =
+Answers limits (Check completeness reports.Verdict forms.Lines) p result =
+    EndsRun (Checked completeness limits p) result
+Answers limits (Check completeness reports.Verdict forms.Json) p result =
+    EndsRun (WritesJson (check_run completeness) limits p) result
+Answers limits (Check completeness (reports.Line name) forms.Lines) p result =
     EndsRun (CheckedLine completeness limits name.now p) result
-Answers limits (Survey completeness listing) p result =
-    EndsRun (SurveysLog completeness listing limits p) result
-Answers limits (Explain completeness) p result =
-    EndsRun (WritesExplanation completeness limits p) result
-Answers limits (ExplainAll completeness) p result =
-    EndsRun (ExplainsAll completeness limits p) result
-Answers limits (ExplainNoted completeness) p result =
-    EndsRun (ExplainsNoted completeness limits p) result
-Answers limits (Compared which) p result =
-    EndsRun (WritesText limits p (λ log. AnswersCompared limits log which)) result
-Answers limits (Show lines) p result = EndsRun (Showed lines limits p) result
-Answers limits (ShowAll lines) p result = EndsRun (ShowsAll lines limits p) result
-Answers limits (Text number uri) p result = EndsRun
+Answers limits (Check completeness (reports.Line file) forms.Json) p result =
+    EndsRun (CheckedObject completeness limits file.now p) result
+Answers limits (Check completeness (reports.Offences listing) form) p result =
+    EndsRun (PassesOn (run_in form (report_run completeness listing)) limits p) result
+Answers limits (Explain completeness explanations.Verdict form) p result =
+    EndsRun (PassesOn (run_in form (explain_run completeness)) limits p) result
+Answers limits (Explain completeness explanations.All form) p result =
+    EndsRun (PassesOn (run_in form (all_run completeness)) limits p) result
+Answers limits (Explain completeness explanations.AllWithNotes form) p result =
+    EndsRun (PassesOn (run_in form (noted_run completeness)) limits p) result
+Answers limits (Compared which) p result = EndsRun (PassesOn (compared_run which) limits p) result
+Answers limits (Show lines First forms.Lines) p result = EndsRun (Showed lines limits p) result
+Answers limits (Show lines First forms.Json) p result =
+    EndsRun (WritesJson (show_run lines) limits p) result
+Answers limits (Show lines All form) p result =
+    EndsRun (PassesOn (run_in form (show_all_run lines)) limits p) result
+Answers limits (Text number uri First) p result = EndsRun
     (WritesText limits p (λ log. AnswersText limits log (non_zero_u64_get number) uri.now)) result
-Answers limits (TextAll number uri) p result = EndsRun
-    (WritesText limits p (λ log. AnswersKept limits log (non_zero_u64_get number) uri.now)) result
+Answers limits (Text number uri All) p result =
+    EndsRun (PassesOn (kept_text_run (non_zero_u64_get number) uri.now) limits p) result
 Answers limits (Event number) p result =
     (ended : Result EventOutcome RunFault) × (result ≡ of_event ended)
     × GivesEvent limits p (non_zero_u64_get number) ended
-Answers limits Normal p result = EndsRun (Normalizes limits p) result
-Answers limits Upgrade p result = EndsRun (UpgradesLog limits p) result
-Answers limits Redact p result = EndsRun (Redacts limits p) result
+Answers limits (Rewrite Normal) p result = EndsRun (Normalizes limits p) result
+Answers limits (Rewrite Upgrade) p result = EndsRun (UpgradesLog limits p) result
+Answers limits (Rewrite Redact) p result = EndsRun (Redacts limits p) result
 Answers limits (Frames mode) p result = EndsRun (RunsFrames mode limits p) result
-Answers limits (Json report) p result = EndsRun (WritesReport limits report p) result
 
 -- a task is done, and fails where the source or the sink counted a failure
 pub record RanTask (limits : Bounds) (task : Task) (p : Ports)

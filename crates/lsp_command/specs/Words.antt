@@ -24,7 +24,16 @@ use Rattle.lsp_verdict.specs.declared.listing.Listing.{Listing}
 use Rattle.lsp_verdict.specs.declared.listing.Listing.TheVariants.{Causes, Every}
 use Rattle.lsp_explain.specs.declared.compared.ComparedText.{ComparedText}
 use Rattle.lsp_explain.specs.declared.compared.ComparedText.TheVariants.{ByMessages, InEditor}
+use Rattle.lsp_json_run.specs.declared.form.Form.{Form}
+use Rattle.lsp_json_run.specs.declared.form.Form.TheVariants as forms
+use Rattle.lsp_command.specs.declared.command_line.task.Explanation.{Explanation}
+use Rattle.lsp_command.specs.declared.command_line.task.Explanation.TheVariants as explanations
+use Rattle.lsp_command.specs.declared.command_line.task.Extent.{Extent}
+use Rattle.lsp_command.specs.declared.command_line.task.Extent.TheVariants as extents
+use Rattle.lsp_command.specs.declared.command_line.task.Report.{Report}
+use Rattle.lsp_command.specs.declared.command_line.task.Report.TheVariants as reports
 use Rattle.lsp_command.specs.declared.command_line.task.Request.{Request}
+use Rattle.lsp_command.specs.declared.command_line.task.Rewrite.TheVariants as rewrites
 use Rattle.lsp_command.specs.declared.command_line.task.Task.{Task}
 use Rattle.lsp_command.specs.declared.command_line.task.Task.TheVariants as tasks
 
@@ -66,24 +75,21 @@ pub record IsFlag (value : Option (List ℕ)) (set : Bool) : Type 0 where
 abbrev pub listing_of : Bool → Bool → Option Listing
 listing_of all every = if every then Some Every else if all then Some Causes else None
 
-abbrev pub check_of : Completeness → Option Listing → Task
-check_of completeness None = tasks.Check completeness
-check_of completeness (Some listing) = tasks.Survey completeness listing
+-- which report is written: that of the verdict, or a list of these offences
+abbrev pub report_of : Option Listing → Report
+report_of None = reports.Verdict
+report_of (Some listing) = reports.Offences listing
 
 -- which of two texts that differ is written, where one is
 abbrev pub compared_of : Bool → Bool → Option ComparedText
 compared_of by_messages in_editor =
     if by_messages then Some ByMessages else if in_editor then Some InEditor else None
 
--- what explains all that is wrong with a session, with the notes or without
-abbrev pub all_of_session : Completeness → Bool → Task
-all_of_session completeness notes =
-    if notes then tasks.ExplainNoted completeness else tasks.ExplainAll completeness
-
-abbrev pub explain_of : Completeness → Bool → Bool → Option ComparedText → Task
-explain_of completeness all notes None =
-    if all then all_of_session completeness notes else tasks.Explain completeness
-explain_of completeness all notes (Some which) = tasks.Compared which
+-- what is explained: the verdict, or all that is wrong, with the notes or without
+abbrev pub explanation_of : Bool → Bool → Explanation
+explanation_of all notes =
+    if all then (if notes then explanations.AllWithNotes else explanations.All)
+    else explanations.Verdict
 
 abbrev pub lines_of : Bool → Lines
 lines_of true = Long
@@ -98,9 +104,27 @@ abbrev pub limits_by : LineEnds → Bounds
 limits_by ends.Exact = profile
 limits_by ends.Ignored = ignoring_line_ends profile
 
+abbrev pub extent_of : Bool → Extent
+extent_of true = extents.All
+extent_of false = extents.First
+
+abbrev pub form_of : Bool → Form
+form_of true = forms.Json
+form_of false = forms.Lines
+
+-- all of a session is followed where the option for that is set
+abbrev pub AsksExtent : List Row → Extent → Type 0
+AsksExtent rows extent =
+    (set : Bool) × IsFlag (one_of (codes "all") rows) set × (extent ≡ extent_of set)
+
+-- JSON is written where the option for that is set
+abbrev pub AsksForm : List Row → Form → Type 0
+AsksForm rows form = (set : Bool) × IsFlag (one_of (codes "json") rows) set × (form ≡ form_of set)
+
 -- the session must be complete where the option for that is set, and offences are listed where an
--- option for these is set
-pub record AsksCheck (rows : List Row) (completeness : Completeness) (listing : Option Listing) : Type 0 where
+-- option for these is set; no words ask for the line of one of several sessions
+pub record AsksCheck (rows : List Row) (completeness : Completeness) (report : Report) (form : Form)
+    : Type 0 where
   pub complete : Bool
   pub all : Bool
   pub every : Bool
@@ -108,44 +132,39 @@ pub record AsksCheck (rows : List Row) (completeness : Completeness) (listing : 
   pub all_is : IsFlag (one_of (codes "all") rows) all
   pub every_is : IsFlag (one_of (codes "every") rows) every
   pub completeness_is : completeness ≡ completeness_of complete
-  pub listing_is : listing ≡ listing_of all every
+  pub report_is : report ≡ report_of (listing_of all every)
+  pub form_is : AsksForm rows form
 
--- the session must be complete where the option for that is set, and all that is wrong is explained
--- where the option for that is set, with the notes where that for them is; one of two texts is
--- written where an option for these is set
-pub record AsksExplain (rows : List Row) (completeness : Completeness) (all : Bool) (notes : Bool)
-    (text : Option ComparedText) : Type 0 where
+-- this one of two texts is written, or none, as the options for these are set
+abbrev pub AsksCompared : List Row → Option ComparedText → Type 0
+AsksCompared rows text =
+    (by_messages : Bool) × (in_editor : Bool) × IsFlag (one_of (codes "by-messages") rows) by_messages
+    × IsFlag (one_of (codes "in-editor") rows) in_editor × (text ≡ compared_of by_messages in_editor)
+
+-- all that is wrong is explained where the option for that is set, and with the notes where the one
+-- for these is set too
+abbrev pub AsksExplanation : List Row → Explanation → Type 0
+AsksExplanation rows explanation =
+    (all : Bool) × (notes : Bool) × IsFlag (one_of (codes "all") rows) all
+    × IsFlag (one_of (codes "notes") rows) notes × (explanation ≡ explanation_of all notes)
+
+-- no text is; the session must be complete where the option for that is set
+pub record AsksExplain (rows : List Row) (completeness : Completeness) (explanation : Explanation)
+    (form : Form) : Type 0 where
   pub complete : Bool
-  pub by_messages : Bool
-  pub in_editor : Bool
+  pub no_text : AsksCompared rows None
   pub complete_is : IsFlag (one_of (codes "complete") rows) complete
-  pub all_is : IsFlag (one_of (codes "all") rows) all
-  pub notes_is : IsFlag (one_of (codes "notes") rows) notes
-  pub by_messages_is : IsFlag (one_of (codes "by-messages") rows) by_messages
-  pub in_editor_is : IsFlag (one_of (codes "in-editor") rows) in_editor
   pub completeness_is : completeness ≡ completeness_of complete
-  pub text_is : text ≡ compared_of by_messages in_editor
+  pub explanation_is : AsksExplanation rows explanation
+  pub form_is : AsksForm rows form
 
--- this one is written, whatever else is asked for
-abbrev pub AsksCompared : List Row → ComparedText → Type 0
-AsksCompared rows which =
-    (completeness : Completeness) × (all : Bool) × (notes : Bool)
-    × AsksExplain rows completeness all notes (Some which)
-
--- the verdict is explained, whether notes are asked for or not: it has them
-abbrev pub AsksOne : List Row → Completeness → Type 0
-AsksOne rows completeness = (notes : Bool) × AsksExplain rows completeness false notes None
-
--- the lines are long where the option for these is set, and each event that offends is skipped
--- where the option for that is set
-pub record AsksShow (rows : List Row) (lines : Lines) (all : Bool) : Type 0 where
+-- the lines are long where the option for these is set
+pub record AsksShow (rows : List Row) (lines : Lines) (extent : Extent) (form : Form) : Type 0 where
   pub long : Bool
   pub long_is : IsFlag (one_of (codes "long") rows) long
-  pub all_is : IsFlag (one_of (codes "all") rows) all
   pub lines_is : lines ≡ lines_of long
-
-abbrev pub show_of : Lines → Bool → Task
-show_of lines all = if all then tasks.ShowAll lines else tasks.Show lines
+  pub extent_is : AsksExtent rows extent
+  pub form_is : AsksForm rows form
 
 -- line ends do not count where the option for that is set
 abbrev pub AsksLineEnds : List Row → LineEnds → Type 0
@@ -172,58 +191,37 @@ abbrev pub NumberIn : List Row → Option NonZeroU64 → Type 0
 NumberIn rows result =
     MatchOption result ((n : ℕ) → GivesNumber rows n → ⊥) (λ n. GivesNumber rows (non_zero_u64_get n))
 
--- the words give the number and the URI, and each event that offends is skipped where the option
--- for that is set
-pub record AsksText (rows : List Row) (number : NonZeroU64) (uri : Bor Text)
-    (all : Bool) : Type 0 where
+-- the words give the number and the URI
+pub record AsksText (rows : List Row) (number : NonZeroU64) (uri : Bor Text) (extent : Extent)
+    : Type 0 where
   pub number_is : GivesNumber rows (non_zero_u64_get number)
   pub uri_is : first_of (codes "uri") rows ≡ Some uri.now
-  pub all_is : IsFlag (one_of (codes "all") rows) all
-
-abbrev pub text_of : NonZeroU64 → Bor Text → Bool → Task
-text_of number uri all = if all then tasks.TextAll number uri else tasks.Text number uri
+  pub extent_is : AsksExtent rows extent
 
 -- the command of a task
 abbrev pub command_of : Task → Text
-command_of (tasks.Check completeness) = codes "check"
-command_of (tasks.CheckLine completeness name) = codes "check"
-command_of (tasks.Survey completeness listing) = codes "check"
-command_of (tasks.Explain completeness) = codes "explain"
-command_of (tasks.ExplainAll completeness) = codes "explain"
-command_of (tasks.ExplainNoted completeness) = codes "explain"
+command_of (tasks.Check completeness report form) = codes "check"
+command_of (tasks.Explain completeness explanation form) = codes "explain"
 command_of (tasks.Compared which) = codes "explain"
-command_of (tasks.Show lines) = codes "show"
-command_of (tasks.ShowAll lines) = codes "show"
-command_of (tasks.Text number uri) = codes "text"
-command_of (tasks.TextAll number uri) = codes "text"
+command_of (tasks.Show lines extent form) = codes "show"
+command_of (tasks.Text number uri extent) = codes "text"
 command_of (tasks.Event number) = codes "event"
-command_of tasks.Normal = codes "normal"
-command_of tasks.Upgrade = codes "upgrade"
-command_of tasks.Redact = codes "redact"
+command_of (tasks.Rewrite rewrites.Normal) = codes "normal"
+command_of (tasks.Rewrite rewrites.Upgrade) = codes "upgrade"
+command_of (tasks.Rewrite rewrites.Redact) = codes "redact"
 command_of (tasks.Frames mode) = codes "frames"
-command_of (tasks.Json report) = []
 
 -- the arguments and options of a task
 abbrev pub HasArguments : List Row → Task → Type 0
-HasArguments rows (tasks.Check completeness) = AsksCheck rows completeness None
--- no words ask for this: it is the task for each where several files are named
-HasArguments rows (tasks.CheckLine completeness name) = ⊥
-HasArguments rows (tasks.Survey completeness listing) = AsksCheck rows completeness (Some listing)
-HasArguments rows (tasks.Explain completeness) = AsksOne rows completeness
-HasArguments rows (tasks.ExplainAll completeness) = AsksExplain rows completeness true false None
-HasArguments rows (tasks.ExplainNoted completeness) = AsksExplain rows completeness true true None
-HasArguments rows (tasks.Compared which) = AsksCompared rows which
-HasArguments rows (tasks.Show lines) = AsksShow rows lines false
-HasArguments rows (tasks.ShowAll lines) = AsksShow rows lines true
-HasArguments rows (tasks.Text number uri) = AsksText rows number uri false
-HasArguments rows (tasks.TextAll number uri) = AsksText rows number uri true
+HasArguments rows (tasks.Check completeness report form) = AsksCheck rows completeness report form
+HasArguments rows (tasks.Explain completeness explanation form) =
+    AsksExplain rows completeness explanation form
+HasArguments rows (tasks.Compared which) = AsksCompared rows (Some which)
+HasArguments rows (tasks.Show lines extent form) = AsksShow rows lines extent form
+HasArguments rows (tasks.Text number uri extent) = AsksText rows number uri extent
 HasArguments rows (tasks.Event number) = GivesNumber rows (non_zero_u64_get number)
-HasArguments rows tasks.Normal = Unit {0}
-HasArguments rows tasks.Upgrade = Unit {0}
-HasArguments rows tasks.Redact = Unit {0}
+HasArguments rows (tasks.Rewrite rewrite) = Unit {0}
 HasArguments rows (tasks.Frames mode) = mode ≡ mode_of (first_of (codes "as") rows)
--- nor for this: it is done in place of another task where JSON is asked for
-HasArguments rows (tasks.Json report) = ⊥
 
 -- **the command of this name asks for the task**, with what was found of its arguments and options
 pub record HasTask (name : Text) (rows : List Row) (task : Task) : Type 0 where

@@ -11,5 +11,5 @@ mod words;
 
 pub use several::{Conflict, conflict_of, quoted_name};
 pub use slip::{Slip, only_word, uri_alone};
-pub use task::{Report, Request, Task};
+pub use task::{Explanation, Extent, Report, Request, Rewrite, Task};
 pub use words::{file_of, request_of};

@@ -27,11 +27,12 @@ mod writer;
 
 pub use beginning::Beginning;
 pub use command_line::{
-    Conflict, Report, Request, Slip, Task, conflict_of, file_of, only_word, quoted_name,
-    request_of, uri_alone,
+    Conflict, Explanation, Extent, Report, Request, Rewrite, Slip, Task, conflict_of, file_of,
+    only_word, quoted_name, request_of, uri_alone,
 };
 pub use hint::{Hint, hint_of};
 pub use input::BufferedInput;
+pub use lsp_json_run::Form;
 pub use output::BufferedOutput;
 pub use pace::{Pace, Supply};
 pub use remark::{remark_of, report_apart};

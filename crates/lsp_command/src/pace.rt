@@ -1,6 +1,6 @@
 //! What is left of an input, who watches the run, and when what is written must be passed on, so
 //! that a run over a pipe can be watched.
-use crate::command_line::{Report, Task};
+use crate::command_line::{Explanation, Report, Task};
 use crate::watch::{Unwatched, Watch};
 use std::cell::Cell;
 
@@ -66,14 +66,9 @@ impl<'a, V: Watch> Pace<'a, V> {
     /// passed on as soon as it is found, and the line of an event before more is read.
     pub fn of(task: &Task<'_>, supply: &'a Supply<V>) -> Pace<'a, V> {
         let turn = match task {
-            Task::Survey(..)
-            | Task::ExplainAll(_)
-            | Task::ExplainNoted(_)
-            | Task::Json(Report::Survey(..) | Report::ExplainAll(_) | Report::ExplainNoted(_)) =>
-                Turn::Always,
-            Task::Show(_) | Task::ShowAll(_) | Task::Json(Report::Show(_) | Report::ShowAll(_)) => {
-                Turn::UsedUp
-            }
+            Task::Check(_, Report::Offences(_), _)
+            | Task::Explain(_, Explanation::All | Explanation::AllWithNotes, _) => Turn::Always,
+            Task::Show(..) => Turn::UsedUp,
             _ => Turn::Never,
         };
         Pace { turn, supply }

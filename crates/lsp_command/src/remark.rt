@@ -3,7 +3,7 @@ ghost use Rattle.std.specs.Prelude.{◌≡◌, IfOk, IfErr, option_map, string_b
 ghost use Rattle.lsp_verdict.specs.declared.outcome.RunFault.TheVariants as faults;
 ghost use Rattle.lsp_command.specs.Remarks.{remark_of, report_apart, run_report_apart};
 
-use crate::command_line::Task;
+use crate::command_line::{Rewrite, Task};
 use crate::task_outcome::TaskOutcome;
 use lsp_judge::{EventOutcome, Mode, Outcome, RunFault, Verdict};
 use lsp_verdict::{frame_report, verdict_report};
@@ -72,16 +72,10 @@ fn run_report_apart(
         (Outcome::Stream { frame, fault }, Task::Frames(Mode::Canonical)) => {
             Ok(Some(frame_report(alloc, *frame, *fault)?))
         }
-        (Outcome::Judged(Verdict::Yes(_)), Task::Upgrade) => Ok(None),
-        (
-            Outcome::Judged(verdict),
-            Task::Text { .. }
-            | Task::TextAll { .. }
-            | Task::Compared(_)
-            | Task::Normal
-            | Task::Upgrade
-            | Task::Redact,
-        ) => Ok(Some(verdict_report(alloc, verdict)?)),
+        (Outcome::Judged(Verdict::Yes(_)), Task::Rewrite(Rewrite::Upgrade)) => Ok(None),
+        (Outcome::Judged(verdict), Task::Text { .. } | Task::Compared(_) | Task::Rewrite(_)) => Ok(
+            Some(verdict_report(alloc, verdict)?),
+        ),
         _ => Ok(None),
     }
 }

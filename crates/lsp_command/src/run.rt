@@ -3,25 +3,23 @@ ghost use Rattle.std.specs.Prelude.{◌≡◌, [], None, Err, OnOk, IsSome};
 ghost use Rattle.lsp_verdict.specs.Runs.{ports};
 ghost use Rattle.lsp_verdict.specs.declared.outcome.RunFault.TheVariants as faults;
 ghost use Rattle.lsp_command.specs.Ports.{input_error, late_error, output_error, unwritten};
-ghost use Rattle.lsp_command.specs.Tasks.{RanTask, RanThrough, WritesReport, handed_on};
+ghost use Rattle.lsp_command.specs.Tasks.{RanTask, RanThrough, handed_on};
 
-use crate::command_line::{Report, Task};
+use crate::command_line::{Explanation, Extent, Report, Rewrite, Task};
 use crate::input::BufferedInput;
 use crate::output::BufferedOutput;
 use crate::task_outcome::{TaskOutcome, of_event, of_run};
 use crate::watch::Watch;
-use lsp_explain::{
-    run_compared, run_explain, run_explain_all, run_explain_all_json, run_explain_json,
-    run_explain_noted, run_explain_noted_json,
-};
+use lsp_explain::{run_compared, run_explain, run_explain_all, run_explain_noted};
 use lsp_frame::{Failed, Limits, Sink, Source};
+use lsp_json_run::Form;
 use lsp_judge::{
     Completeness, Lines, Outcome, RunFault, run_check, run_check_complete, run_check_json,
     run_check_line, run_check_object, run_event, run_frames, run_normal, run_show, run_show_json,
     run_show_long, run_text, run_upgrade,
 };
 use lsp_redact::run_redact;
-use lsp_survey::{run_show_all, run_show_all_json, run_survey, run_survey_json, run_text_all};
+use lsp_survey::{run_show_all, run_survey, run_text_all};
 use std::alloc::Global;
 use std::io::{Read, Write};
 
@@ -38,77 +36,66 @@ pub fn run_task<R: Source, W: Sink>(
         result }
 {
     match task {
-        Task::Check(Completeness::Ignored) => of_run(run_check(alloc, source, sink, limits)),
-        Task::Check(Completeness::Required) => {
+        Task::Check(Completeness::Ignored, Report::Verdict, Form::Lines) => {
+            of_run(run_check(alloc, source, sink, limits))
+        }
+        Task::Check(Completeness::Required, Report::Verdict, Form::Lines) => {
             of_run(run_check_complete(alloc, source, sink, limits))
         }
-        Task::CheckLine { completeness, name } => {
+        Task::Check(completeness, Report::Verdict, Form::Json) => {
+            of_run(run_check_json(alloc, source, sink, limits, completeness))
+        }
+        Task::Check(completeness, Report::Line(name), Form::Lines) => {
             let ended = run_check_line(alloc, source, sink, limits, completeness, name);
             of_run(ended)
         }
-        Task::Survey(completeness, listing) => {
-            let ended = run_survey(alloc, source, sink, limits, completeness, listing);
+        Task::Check(completeness, Report::Line(file), Form::Json) => {
+            let ended = run_check_object(alloc, source, sink, limits, completeness, file);
             of_run(ended)
         }
-        Task::Explain(completeness) => {
-            of_run(run_explain(alloc, source, sink, limits, completeness))
+        Task::Check(completeness, Report::Offences(listing), form) => {
+            let ended = run_survey(alloc, source, sink, limits, completeness, listing, form);
+            of_run(ended)
         }
-        Task::ExplainAll(completeness) => {
-            of_run(run_explain_all(alloc, source, sink, limits, completeness))
+        Task::Explain(completeness, Explanation::Verdict, form) => {
+            of_run(run_explain(alloc, source, sink, limits, completeness, form))
         }
-        Task::ExplainNoted(completeness) => {
-            of_run(run_explain_noted(alloc, source, sink, limits, completeness))
+        Task::Explain(completeness, Explanation::All, form) => {
+            let ended = run_explain_all(alloc, source, sink, limits, completeness, form);
+            of_run(ended)
+        }
+        Task::Explain(completeness, Explanation::AllWithNotes, form) => {
+            let ended = run_explain_noted(alloc, source, sink, limits, completeness, form);
+            of_run(ended)
         }
         Task::Compared(which) => of_run(run_compared(alloc, source, sink, limits, which)),
-        Task::Show(Lines::Short) => of_run(run_show(alloc, source, sink, limits)),
-        Task::Show(Lines::Long) => of_run(run_show_long(alloc, source, sink, limits)),
-        Task::ShowAll(lines) => of_run(run_show_all(alloc, source, sink, limits, lines)),
-        Task::Text { number, uri } => {
-            of_run(run_text(alloc, source, sink, limits, number.get(), uri))
+        Task::Show(Lines::Short, Extent::First, Form::Lines) => {
+            of_run(run_show(alloc, source, sink, limits))
         }
-        Task::TextAll { number, uri } => {
-            of_run(run_text_all(alloc, source, sink, limits, number.get(), uri))
+        Task::Show(Lines::Long, Extent::First, Form::Lines) => {
+            of_run(run_show_long(alloc, source, sink, limits))
         }
+        Task::Show(lines, Extent::First, Form::Json) => {
+            of_run(run_show_json(alloc, source, sink, limits, lines))
+        }
+        Task::Show(lines, Extent::All, form) => {
+            of_run(run_show_all(alloc, source, sink, limits, lines, form))
+        }
+        Task::Text {
+            number,
+            uri,
+            extent: Extent::First,
+        } => of_run(run_text(alloc, source, sink, limits, number.get(), uri)),
+        Task::Text {
+            number,
+            uri,
+            extent: Extent::All,
+        } => of_run(run_text_all(alloc, source, sink, limits, number.get(), uri)),
         Task::Event { number } => of_event(run_event(alloc, source, sink, limits, number.get())),
-        Task::Normal => of_run(run_normal(alloc, source, sink, limits)),
-        Task::Upgrade => of_run(run_upgrade(alloc, source, sink, limits)),
-        Task::Redact => of_run(run_redact(alloc, source, sink, limits)),
+        Task::Rewrite(Rewrite::Normal) => of_run(run_normal(alloc, source, sink, limits)),
+        Task::Rewrite(Rewrite::Upgrade) => of_run(run_upgrade(alloc, source, sink, limits)),
+        Task::Rewrite(Rewrite::Redact) => of_run(run_redact(alloc, source, sink, limits)),
         Task::Frames(mode) => of_run(run_frames(alloc, source, sink, limits, mode)),
-        Task::Json(report) => of_run(run_json(alloc, report, source, sink, limits)),
-    }
-}
-
-/// Writes a report as JSON over a source and a sink.
-fn run_json<R: Source, W: Sink>(
-    alloc: Global,
-    report: Report<'_>,
-    source: &mut R,
-    sink: &mut W,
-    limits: Limits,
-) -> Result<Outcome, RunFault>
-    ensures json { WritesReport limits report.entry
-        (ports (R.told source.old) (R.told source.new) (W.told sink.old) (W.told sink.new))
-        result }
-{
-    match report {
-        Report::Check(completeness) => run_check_json(alloc, source, sink, limits, completeness),
-        Report::CheckLine { completeness, file } => {
-            run_check_object(alloc, source, sink, limits, completeness, file)
-        }
-        Report::Survey(completeness, listing) => {
-            run_survey_json(alloc, source, sink, limits, completeness, listing)
-        }
-        Report::Explain(completeness) => {
-            run_explain_json(alloc, source, sink, limits, completeness)
-        }
-        Report::ExplainAll(completeness) => {
-            run_explain_all_json(alloc, source, sink, limits, completeness)
-        }
-        Report::ExplainNoted(completeness) => {
-            run_explain_noted_json(alloc, source, sink, limits, completeness)
-        }
-        Report::Show(lines) => run_show_json(alloc, source, sink, limits, lines),
-        Report::ShowAll(lines) => run_show_all_json(alloc, source, sink, limits, lines),
     }
 }
 

@@ -6,7 +6,6 @@ pub mod RenamesWorked
 pub mod SessionSteps
 pub mod Waiting
 pub mod Explanations
-pub mod Explaining
 pub mod SaidFacts
 pub mod Methods
 pub mod Standard

@@ -406,11 +406,14 @@ noted_closes completeness terms heard Fits given old mid new s more =
     record {
       said = s.said ++ notes;
       added = more ∙ ap (λ w. w ++ notes) s.added ∙ append_assoc old s.said notes;
-      is = λ tail fits. (
-        s.said,
-        s.is tail fits,
-        ap (λ (v : Verdict). s.said ++ end_notes v n)
-            (verdict_given given (noted_verdict completeness terms heard tail)
-            (s.is tail fits).1),
-      );
+      is = λ tail fits.
+          let due = s.is tail fits in (
+            (
+              s.said,
+              due.0,
+              ap (λ (v : Verdict). s.said ++ end_notes v n)
+                  (verdict_given given (noted_verdict completeness terms heard tail) due.1),
+            ),
+            due.1,
+          );
     }

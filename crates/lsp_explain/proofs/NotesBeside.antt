@@ -27,7 +27,7 @@ notes_beside completeness limits log out outcome p = by_end p.is
     by_end (inr x) =
         let said = plain_events completeness (log_terms limits p.format) p.tail.rests [] p.heard
         x.front x.said in (
-          said.0 ++ x.closes.0,
+          said.0 ++ x.closes.0.0,
           record {
             format = p.format;
             records = p.records;
@@ -36,10 +36,10 @@ notes_beside completeness limits log out outcome p = by_end p.is
             told = p.told;
             is = inr (record {
               front = said.0;
-              last = x.closes.0;
+              last = x.closes.0.0;
               is = refl;
               said = said.1;
-              closes = x.closes.1;
+              closes = (x.closes.0.1, x.closes.1);
             });
           },
         )

@@ -1,6 +1,6 @@
 -- What `explain --all --notes` says: of each event the notes that are found at it.
 use Rattle.std.specs.Prelude.{◌≡◌, ℕ, List, [], ◌∷◌, ◌++◌, drop, length, map, Bool, true, false}
-use Rattle.std.specs.Prelude.{◌==◌, ◌&&◌, not, is_some, if◌then◌else◌, Option, Some, None, Result}
+use Rattle.std.specs.Prelude.{◌==◌, ◌&&◌, not, is_some, if◌then◌else◌, Option, Some, None}
 use Rattle.std.specs.List.{cons_option}
 use Rattle.lsp_docs.specs.Documents.{Terms}
 use Rattle.lsp_facts.specs.Fact.{Fact, fact_lines}
@@ -9,7 +9,7 @@ use Rattle.lsp_session.specs.Handshake.{phase}
 use Rattle.lsp_session.specs.Sent.{is_shutdown}
 use Rattle.lsp_session.specs.declared.phase.Phase.TheVariants.{Exited}
 use Rattle.lsp_replay.specs.Lines.{place_of}
-use Rattle.lsp_replay.specs.Run.{IsPassed, Passes, Run, Tail}
+use Rattle.lsp_replay.specs.Run.{IsPassed, Run, Tail}
 use Rattle.lsp_replay.specs.Telling.{kept_before, rule_of}
 use Rattle.lsp_replay.specs.declared.heard.EventPlace.{EventPlace}
 use Rattle.lsp_survey.specs.SessionEnds.{all_verdict, ends_of}
@@ -18,11 +18,9 @@ use Rattle.lsp_verdict.specs.Event.{Event, fault, message, sent_in, snapshot}
 use Rattle.lsp_verdict.specs.Heard.{Heard, heard_events}
 use Rattle.lsp_verdict.specs.LookBack.{each_of, first_of}
 use Rattle.lsp_verdict.specs.Offences.{said_at}
-use Rattle.lsp_verdict.specs.Runs.{Ports}
 use Rattle.lsp_verdict.specs.Verdict.{Verdict}
 use Rattle.lsp_verdict.specs.declared.completeness.Completeness.{Completeness}
 use Rattle.lsp_verdict.specs.declared.outcome.Outcome.{Outcome}
-use Rattle.lsp_verdict.specs.declared.outcome.RunFault.{RunFault}
 use Rattle.lsp_explain.specs.Asking.{numbered, same_phase}
 use Rattle.lsp_explain.specs.Behind.{AreBehind, is_on_behind}
 use Rattle.lsp_explain.specs.DocumentNotes.{DocumentNote, document_line}
@@ -179,16 +177,11 @@ noted_run completeness = record {
   wants = λ terms before h. true;
   stops = λ terms before h. false;
   ends = λ terms before h outcome. ⊥;
-  closes = λ terms heard tail out outcome.
-      SaysMore (λ said. (all_run completeness).closes terms heard tail said outcome)
+  closes = λ terms heard tail out.
+      SaysMore (λ said. (all_run completeness).closes terms heard tail said)
       (end_notes (noted_verdict completeness terms heard tail) (noticed_along terms heard)) out;
+  finishes = (all_run completeness).finishes;
 }
-
--- **what `explain --all --notes` answers and writes**
-abbrev pub ExplainsNoted : Completeness → Bounds → Ports → Result Outcome RunFault → Type 0
-ExplainsNoted completeness limits io result =
-    Passes (noted_run completeness) limits io.source_before io.source_after io.sink_before
-    io.sink_after result
 
 -- ---- laws
 

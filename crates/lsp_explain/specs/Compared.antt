@@ -1,9 +1,8 @@
 -- The whole texts of a verdict that says that two texts differ: the one that the messages make, and
 -- the one that was recorded.
-use Rattle.std.specs.Prelude.{◌≡◌, ℕ, List, Option, Some, None, option_map, unwrap_or}
+use Rattle.std.specs.Prelude.{List, Option, Some, None, option_map}
 use Rattle.lsp_docs.specs.Documents.{Terms}
 use Rattle.lsp_docs.specs.Calls.{Text}
-use Rattle.lsp_frame.specs.Bounds.{Bounds, IsInRange}
 use Rattle.lsp_facts.specs.TwoTexts.{TwoTexts, texts_at, texts_view}
 use Rattle.lsp_facts.specs.declared.two_texts.TwoTexts as code
 use Rattle.lsp_replay.specs.Run.{Run, Tail}
@@ -11,14 +10,9 @@ use Rattle.lsp_replay.specs.Telling.{kept_before}
 use Rattle.lsp_replay.specs.TextAnswers.{answer_run}
 use Rattle.lsp_text.specs.Counted.{Counted}
 use Rattle.lsp_verdict.specs.Event.{Event}
-use Rattle.lsp_verdict.specs.LookBack.{first_of}
 use Rattle.lsp_verdict.specs.Heard.{Heard}
-use Rattle.lsp_verdict.specs.Offences.{Offence, events_of}
-use Rattle.lsp_verdict.specs.Outcome.{log_terms}
 use Rattle.lsp_verdict.specs.Shown.{TextAnswer, text_is, no_difference, refused}
-use Rattle.lsp_verdict.specs.Survey.{IsSurvey}
-use Rattle.lsp_verdict.specs.Verdict.{Summary, Verdict, bad_log_of, offence}
-use Rattle.lsp_verdict.specs.declared.completeness.Completeness.TheVariants.{Ignored}
+use Rattle.lsp_verdict.specs.Verdict.{Verdict, bad_log_of, offence}
 use Rattle.lsp_explain.specs.declared.compared.ComparedText.{ComparedText}
 use Rattle.lsp_explain.specs.declared.compared.ComparedText.TheVariants.{ByMessages, InEditor}
 
@@ -49,24 +43,6 @@ answer_at which terms before event =
 abbrev pub sound_answer : Option Verdict → TextAnswer
 sound_answer None = no_difference
 sound_answer (Some v) = refused v
-
--- that at the first event that offends
-abbrev pub compared_answer : ComparedText → Terms → Option Verdict → List Event → TextAnswer
-compared_answer which terms bad events =
-    unwrap_or (first_of (answer_at which terms) events) (sound_answer bad)
-
--- **the answer on a log**
-abbrev pub AnswersCompared : Bounds → List ℕ → ComparedText → TextAnswer → Type 0
-AnswersCompared limits log which answer =
-    (found : List Offence) × (bad : Option Verdict) × (s : Summary)
-    × (is : IsSurvey Ignored limits log found bad s)
-    × (answer ≡ compared_answer which (log_terms limits is.format) bad (events_of is.notes))
-
--- **A log has one such answer.**
-abbrev pub OneComparedText : Type 0
-OneComparedText = (limits : Bounds) → IsInRange limits → (log : List ℕ) (which : ComparedText)
-    → (a b : TextAnswer) → AnswersCompared limits log which a → AnswersCompared limits log which b
-    → a ≡ b
 
 -- ---- the run
 

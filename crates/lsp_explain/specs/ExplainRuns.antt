@@ -115,11 +115,10 @@ explain_run completeness = record {
   stops = λ terms before h. is_some (rule_of terms before h);
   ends = λ terms before h outcome.
       (v : Verdict) × (no_of terms before h ≡ Some v) × IsJudged v outcome;
-  closes = λ terms heard tail out outcome.
-      (out ≡ end_explanation terms heard tail.rests tail.fault
-      (flaw_at tail.place tail.line tail.fault) (ends_of completeness terms heard tail))
-      × IsJudged (end_verdict terms heard tail.fault (ends_of completeness terms heard tail))
-      outcome;
+  closes = λ terms heard tail out. out ≡ end_explanation terms heard tail.rests tail.fault
+      (flaw_at tail.place tail.line tail.fault) (ends_of completeness terms heard tail);
+  finishes = λ terms heard tail.
+      IsJudged (end_verdict terms heard tail.fault (ends_of completeness terms heard tail));
 }
 
 -- **the run `explain --all`**: it explains each event that offends and follows from no earlier one
@@ -130,11 +129,10 @@ all_run completeness = record {
       may_keep h.raw || has_cause (offence_at terms (notes_of before) h.note);
   stops = λ terms before h. false;
   ends = λ terms before h outcome. ⊥;
-  closes = λ terms heard tail out outcome.
-      (out ≡ all_end terms heard tail.rests tail.fault
-      (flaw_at tail.place tail.line tail.fault) (ends_of completeness terms heard tail))
-      × IsJudged (all_verdict terms heard tail.fault (ends_of completeness terms heard tail))
-      outcome;
+  closes = λ terms heard tail out. out ≡ all_end terms heard tail.rests tail.fault
+      (flaw_at tail.place tail.line tail.fault) (ends_of completeness terms heard tail);
+  finishes = λ terms heard tail.
+      IsJudged (all_verdict terms heard tail.fault (ends_of completeness terms heard tail));
 }
 
 -- ---- what their accounts hold, and what they add

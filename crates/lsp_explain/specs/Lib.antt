@@ -32,4 +32,5 @@ pub mod Notes
 pub mod ExplainRuns
 pub mod Behind
 pub mod AllNotes
+pub mod ExplainLaws
 pub mod Explained

@@ -4,14 +4,15 @@ ghost use Rattle.lsp_docs.specs.State.{Stands};
 ghost use Rattle.lsp_docs.specs.Taken.{call_view};
 ghost use Rattle.lsp_facts.specs.TwoTexts.{texts_at};
 ghost use Rattle.lsp_replay.specs.LogEvents.{flaw_of};
-ghost use Rattle.lsp_replay.specs.TextAnswers.{WritesText, answer_view};
+ghost use Rattle.lsp_replay.specs.Run.{PassesOn};
+ghost use Rattle.lsp_replay.specs.TextAnswers.{answer_view};
 ghost use Rattle.lsp_replay.specs.Tries.{TriesCall, made_in};
 ghost use Rattle.lsp_verdict.specs.Event.{Event, call_at, calls};
 ghost use Rattle.lsp_verdict.specs.Heard.{heard_events};
 ghost use Rattle.lsp_verdict.specs.Runs.{ports};
 ghost use Rattle.lsp_verdict.specs.Verdict.{bad_log_of, first_no, offence};
 ghost use Rattle.lsp_explain.specs.Compared as spec;
-ghost use Rattle.lsp_explain.specs.Compared.{AnswersCompared, ComparedAsked, compared_run};
+ghost use Rattle.lsp_explain.specs.Compared.{ComparedAsked, compared_run};
 ghost use Rattle.lsp_explain.specs.Compared.{seen_texts, sound_answer};
 
 use lsp_docs::{Call, Tried};
@@ -45,8 +46,9 @@ pub fn run_compared<R: Source, W: Sink>(
     limits: Limits,
     which: ComparedText,
 ) -> Result<Outcome, RunFault>
-    ensures text { WritesText limits (ports (R.told reader.old) (R.told reader.new)
-        (W.told writer.old) (W.told writer.new)) (λ log. AnswersCompared limits log which) result }
+    ensures passes { PassesOn (compared_run which) limits
+        (ports (R.told reader.old) (R.told reader.new) (W.told writer.old) (W.told writer.new))
+        result }
 {
     let mut account = OneText { which };
     pass(alloc, reader, writer, limits, &mut account)

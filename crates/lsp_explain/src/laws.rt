@@ -1,10 +1,12 @@
 //! Laws of what is explained.
 ghost use Rattle.lsp_explain.specs.AllNotes.{NotesAreBeside};
 ghost use Rattle.lsp_explain.specs.AsciiLines.{NoFitsInAscii};
-ghost use Rattle.lsp_explain.specs.Compared.{OneComparedText};
-ghost use Rattle.lsp_explain.specs.Explained.{BeginsWithReport, CausesAreExplained, FirstIsVerdict};
-ghost use Rattle.lsp_explain.specs.Explained.{OneExplanation, OneExplanationOfAll, SomeExplanation};
-ghost use Rattle.lsp_explain.specs.Explained.{SomeExplanationOfAll, YesIsReport};
+ghost use Rattle.lsp_explain.specs.ExplainLaws.{AllAnswersVerdict, BeginsWithReport};
+ghost use Rattle.lsp_explain.specs.ExplainLaws.{CausesAreExplained, ComparedAtItsEnd};
+ghost use Rattle.lsp_explain.specs.ExplainLaws.{ExplanationAnswersVerdict, ExplanationAtItsEnd};
+ghost use Rattle.lsp_explain.specs.ExplainLaws.{FirstIsVerdict, NotedAnswersVerdict};
+ghost use Rattle.lsp_explain.specs.ExplainLaws.{OneComparedText, OneExplanation};
+ghost use Rattle.lsp_explain.specs.ExplainLaws.{OneExplanationOfAll, OneNotedExplanation, YesIsReport};
 ghost use Rattle.lsp_explain.specs.StandardMethods.{MethodsHaveRows, RowsAreStandard};
 
 /// An explanation begins with the report of the verdict.
@@ -27,24 +29,19 @@ pub fn first_explained_is_verdict()
     ensures { FirstIsVerdict }
 {}
 
-/// Each log has an explanation, with the verdict on it.
-pub fn some_explanation()
-    ensures { SomeExplanation }
-{}
-
-/// And one only.
+/// Each log has exactly one explanation.
 pub fn one_explanation()
     ensures { OneExplanation }
 {}
 
-/// Each log has an explanation of all that is wrong with it.
-pub fn some_explanation_of_all()
-    ensures { SomeExplanationOfAll }
-{}
-
-/// And one only.
+/// Each log has exactly one explanation of all that is wrong with it.
 pub fn one_explanation_of_all()
     ensures { OneExplanationOfAll }
+{}
+
+/// Each log has exactly one explanation of all that is wrong with it and of the notes.
+pub fn one_noted_explanation()
+    ensures { OneNotedExplanation }
 {}
 
 /// Without its notes, what `explain --all --notes` writes of a log is what `explain --all` does.
@@ -52,9 +49,34 @@ pub fn notes_are_beside()
     ensures { NotesAreBeside }
 {}
 
-/// A log has one answer for each of the two texts of a verdict that says that they differ.
+/// A log has exactly one answer for each of the two texts of a verdict that says that they differ.
 pub fn one_compared_text()
     ensures { OneComparedText }
+{}
+
+/// The answer that comes with an explanation is the verdict on the log.
+pub fn explanation_answers_verdict()
+    ensures { ExplanationAnswersVerdict }
+{}
+
+/// So is the one that comes with an explanation of all that is wrong.
+pub fn all_explained_answers_verdict()
+    ensures { AllAnswersVerdict }
+{}
+
+/// With the notes too.
+pub fn noted_explanation_answers_verdict()
+    ensures { NotedAnswersVerdict }
+{}
+
+/// Nothing of an explanation is written before its run ends.
+pub fn explanation_at_its_end()
+    ensures { ExplanationAtItsEnd }
+{}
+
+/// Nor of one of the two texts.
+pub fn compared_at_its_end()
+    ensures { ComparedAtItsEnd }
 {}
 
 /// Where each line that a position of a suspect falls in is ASCII, no other encoding makes the text

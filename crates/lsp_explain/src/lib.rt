@@ -4,13 +4,11 @@
 //! [`run_explain`] reads a log and explains the verdict on it, and [`run_explain_all`] all that is
 //! wrong with it; [`run_explain_noted`] also tells the notes on the way. An offence is explained by
 //! the facts of `lsp_facts` and by the earlier events that led to it. [`run_compared`] writes one
-//! of two whole texts, if the verdict says that they differ. [`run_explain_json`],
-//! [`run_explain_all_json`] and [`run_explain_noted_json`] explain in JSON. Each is an account
-//! (`FirstOffence`, `AllCauses`, `NotedCauses`, `OneText`) over the one `pass` of `lsp_replay`, and
-//! `Trail` keeps on the way which events led to what.
+//! of two whole texts, if the verdict says that they differ. The others also write JSON. Each is an
+//! account (`FirstOffence`, `AllCauses`, `NotedCauses`, `OneText`) over the one `pass` of
+//! `lsp_replay`, and `Trail` keeps on the way which events led to what.
 #![tactic(auto)]
 
-mod as_json;
 mod compared;
 mod fits;
 mod laws;
@@ -30,13 +28,14 @@ mod twins;
 mod unopened;
 mod unrisen;
 
-pub use as_json::{run_explain_all_json, run_explain_json, run_explain_noted_json};
 pub use compared::{ComparedText, run_compared};
 pub use laws::{
-    all_explained_are_causes, explanation_begins_with_report, explanation_of_yes_is_report,
-    first_explained_is_verdict, no_fits_in_ascii, notes_are_beside, one_compared_text,
-    one_explanation, one_explanation_of_all, rows_are_standard_methods, some_explanation,
-    some_explanation_of_all, standard_methods_have_rows,
+    all_explained_answers_verdict, all_explained_are_causes, compared_at_its_end,
+    explanation_answers_verdict, explanation_at_its_end, explanation_begins_with_report,
+    explanation_of_yes_is_report, first_explained_is_verdict, no_fits_in_ascii,
+    noted_explanation_answers_verdict, notes_are_beside, one_compared_text, one_explanation,
+    one_explanation_of_all, one_noted_explanation, rows_are_standard_methods,
+    standard_methods_have_rows,
 };
 pub use run::run_explain;
 pub use run_all::run_explain_all;

@@ -3,6 +3,8 @@ ghost use Rattle.std.specs.Prelude.{◌≡◌, ◌++◌, ◌<◌, ◌^◌, [], L
 ghost use Rattle.std.specs.Prelude.{map, take};
 ghost use Rattle.lsp_docs.specs.Documents.{Terms};
 ghost use Rattle.lsp_replay.specs.LogEvents.{flaw_of};
+ghost use Rattle.lsp_json_run.specs.JsonRun.{run_in};
+ghost use Rattle.lsp_replay.specs.Run.{PassesOn};
 ghost use Rattle.lsp_replay.specs.Telling.{Stood};
 ghost use Rattle.lsp_survey.specs.SessionEnds.{ends_held};
 ghost use Rattle.lsp_verdict.specs.Given.{verdict_view};
@@ -13,14 +15,15 @@ ghost use Rattle.lsp_verdict.specs.Verdict.{bad_log_of, first_no, summary};
 ghost use Rattle.lsp_verdict.specs.declared.completeness.Completeness.{Completeness};
 ghost use Rattle.lsp_explain.specs.ExplainRuns.{FirstStands, flaw_held, rests_held, end_verdict};
 ghost use Rattle.lsp_explain.specs.ExplainRuns.{ends_said, explain_run};
-ghost use Rattle.lsp_explain.specs.Explained.{WritesExplanation, explanation};
+ghost use Rattle.lsp_explain.specs.Explained.{explanation};
 ghost use Rattle.lsp_explain.specs.Trails.{IsTrail};
 
 use crate::notes::{Misfits, Refusals, ServerEdits, Spellings, push_notes};
 use crate::offence_facts::{push_end, push_flaw, push_offence};
 use crate::trail::{Past, Trail};
 use lsp_frame::{Limits, Sink, Source};
-use lsp_replay::{Account, End, Events, Fate, Flow, LogEvents, Seen, last_offence, pass};
+use lsp_json_run::{Form, pass_in};
+use lsp_replay::{Account, End, Events, Fate, Flow, LogEvents, Seen, last_offence};
 use lsp_rpc::Result;
 use lsp_survey::{OffenceCount, SessionEnd, session_end};
 use lsp_text::Lined;
@@ -43,13 +46,14 @@ pub fn run_explain<R: Source, W: Sink>(
     writer: &mut W,
     limits: Limits,
     completeness: Completeness,
+    form: Form,
 ) -> Result<Outcome, RunFault>
-    ensures explains { WritesExplanation completeness limits
+    ensures passes { PassesOn (run_in form (explain_run completeness)) limits
         (ports (R.told reader.old) (R.told reader.new) (W.told writer.old) (W.told writer.new))
         result }
 {
-    let mut account = FirstOffence::new(alloc, completeness);
-    pass(alloc, reader, writer, limits, &mut account)
+    let account = FirstOffence::new(alloc, completeness);
+    pass_in(alloc, reader, writer, limits, account, form)
 }
 
 /// Explains the first event that offends, or how a log ends where none does.

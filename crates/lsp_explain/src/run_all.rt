@@ -3,6 +3,8 @@ ghost use Rattle.std.specs.Prelude.{◌≡◌, ◌++◌, ◌<◌, ◌^◌, [], L
 ghost use Rattle.std.specs.Prelude.{string_bytes};
 ghost use Rattle.std.specs.List.{flat_map};
 ghost use Rattle.lsp_docs.specs.Documents.{Terms};
+ghost use Rattle.lsp_json_run.specs.JsonRun.{run_in};
+ghost use Rattle.lsp_replay.specs.Run.{PassesOn};
 ghost use Rattle.lsp_replay.specs.Telling.{Closes, IsEnd, Stood};
 ghost use Rattle.lsp_survey.specs.Reported.{IsTally};
 ghost use Rattle.lsp_verdict.specs.Event.{Event};
@@ -14,13 +16,14 @@ ghost use Rattle.lsp_verdict.specs.declared.completeness.Completeness.{Completen
 ghost use Rattle.lsp_verdict.specs.declared.outcome.Outcome.TheVariants.{Judged};
 ghost use Rattle.lsp_explain.specs.Asking.{numbered};
 ghost use Rattle.lsp_explain.specs.ExplainRuns.{AllStands, rests_held, all_run};
-ghost use Rattle.lsp_explain.specs.Explained.{ExplainsAll, cause_lines, end_explained};
+ghost use Rattle.lsp_explain.specs.Explained.{cause_lines, end_explained};
 ghost use Rattle.lsp_explain.specs.Trails.{StandsAfter, terms_in};
 
 use crate::offence_facts::{push_end, push_flaw, push_offence};
 use crate::trail::{Past, Trail};
 use lsp_frame::{Limits, Sink, Source};
-use lsp_replay::{Account, End, Events, Fate, Flow, LogEvents, Seen, last_offence, pass};
+use lsp_json_run::{Form, pass_in};
+use lsp_replay::{Account, End, Events, Fate, Flow, LogEvents, Seen, last_offence};
 use lsp_rpc::Result;
 use lsp_survey::{Losses, OffenceCount, SessionEnd, session_end};
 use lsp_text::Lined;
@@ -45,14 +48,15 @@ pub fn run_explain_all<R: Source, W: Sink>(
     writer: &mut W,
     limits: Limits,
     completeness: Completeness,
+    form: Form,
 ) -> Result<Outcome, RunFault>
     // The verdict is the one that `run_check` gives, or `run_check_complete`.
-    ensures explains { ExplainsAll completeness limits
+    ensures passes { PassesOn (run_in form (all_run completeness)) limits
         (ports (R.told reader.old) (R.told reader.new) (W.told writer.old) (W.told writer.new))
         result }
 {
-    let mut account = AllCauses::new(alloc, completeness);
-    pass(alloc, reader, writer, limits, &mut account)
+    let account = AllCauses::new(alloc, completeness);
+    pass_in(alloc, reader, writer, limits, account, form)
 }
 
 /// Explains each offence of a log that follows from no earlier one, and how the log ends.

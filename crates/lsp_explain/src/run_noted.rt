@@ -1,15 +1,18 @@
 //! Explains all that is wrong with a log, with the notes on what breaks no rule.
 ghost use Rattle.std.specs.Prelude.{◌≡◌, []};
 ghost use Rattle.lsp_docs.specs.Documents.{Terms};
+ghost use Rattle.lsp_json_run.specs.JsonRun.{run_in};
+ghost use Rattle.lsp_replay.specs.Run.{PassesOn};
 ghost use Rattle.lsp_verdict.specs.Runs.{ports};
 ghost use Rattle.lsp_verdict.specs.declared.completeness.Completeness.{Completeness};
-ghost use Rattle.lsp_explain.specs.AllNotes.{ExplainsNoted, NotedStands, noted_run};
+ghost use Rattle.lsp_explain.specs.AllNotes.{NotedStands, noted_run};
 
 use crate::notes::NotesAlong;
 use crate::run_all::AllCauses;
 use crate::trail::Past;
 use lsp_frame::{Limits, Sink, Source};
-use lsp_replay::{Account, End, Events, Flow, LogEvents, Seen, pass};
+use lsp_json_run::{Form, pass_in};
+use lsp_replay::{Account, End, Events, Flow, LogEvents, Seen};
 use lsp_rpc::Result;
 use lsp_text::Lined;
 use lsp_verdict::{Completeness, Outcome, RunFault};
@@ -27,13 +30,14 @@ pub fn run_explain_noted<R: Source, W: Sink>(
     writer: &mut W,
     limits: Limits,
     completeness: Completeness,
+    form: Form,
 ) -> Result<Outcome, RunFault>
-    ensures explains { ExplainsNoted completeness limits
+    ensures passes { PassesOn (run_in form (noted_run completeness)) limits
         (ports (R.told reader.old) (R.told reader.new) (W.told writer.old) (W.told writer.new))
         result }
 {
-    let mut account = NotedCauses::new(alloc, completeness);
-    pass(alloc, reader, writer, limits, &mut account)
+    let account = NotedCauses::new(alloc, completeness);
+    pass_in(alloc, reader, writer, limits, account, form)
 }
 
 /// Explains each offence of a log that follows from no earlier one, and how the log ends, and tells

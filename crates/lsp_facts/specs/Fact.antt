@@ -277,6 +277,6 @@ usual_of (no rule by count event) = usual rule by
 usual_of (bad_log at code) = codes "recorder"
 usual_of (yes s) = codes "recorder"
 
--- **the facts, whose fault it usually is, and what they come to**
+-- **the facts, whose fault it usually is, and what they mean together**
 abbrev pub detail_lines : List Fact → List ℕ → List ℕ
 detail_lines facts who = fact_lines facts ++ usual_line who ++ so_lines facts

@@ -1,4 +1,4 @@
--- One plain sentence on what the lines that are said about an event come to.
+-- What the lines that are said about an event mean together, in one plain sentence.
 use Rattle.std.specs.Prelude.{ℕ, List, [], ◌∷◌, ◌++◌, ◌×◌, ◌&&◌, ◌==◌, Bool, Option, Some, None}
 use Rattle.std.specs.Prelude.{codes, if◌then◌else◌, map}
 use Rattle.std.specs.Borrow.{Bor}
@@ -36,6 +36,6 @@ abbrev pub so_line : Option Row → List ℕ
 so_line None = []
 so_line (Some row) = line (codes "so" ∷ quoted row.sentence ∷ [])
 
--- **what these lines come to**, if a row has it
+-- **the sentence for these lines**, if a row has one
 abbrev pub so_lines : List (List ℕ) → List ℕ
 so_lines lines = so_line (row_for rows lines)

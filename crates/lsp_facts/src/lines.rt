@@ -11,7 +11,7 @@ use lsp_verdict::{Who, who_name};
 use std::fmt::Write;
 
 /// Adds the lines of facts, one each, whose fault that usually is, as
-/// [`usual`](crate::blame::usual) gives it, and the sentence that the facts come to, if any.
+/// [`usual`](crate::blame::usual) gives it, and the sentence that they mean together, if any.
 ///
 /// # Errors
 /// `Memory` where memory was refused.

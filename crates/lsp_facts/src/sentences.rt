@@ -1,4 +1,4 @@
-//! One plain sentence on what the facts come to.
+//! What facts mean together, in one plain sentence.
 ghost use Rattle.std.specs.Prelude.{◌≡◌, ◌++◌, OnOk, map, option_map, string_bytes};
 ghost use Rattle.lsp_facts.specs.Sentences as spec;
 ghost use Rattle.lsp_facts.specs.Sentences.{row_view, so_line, so_lines};
@@ -107,7 +107,7 @@ pub(crate) const ROWS: [Row; 22] = [
     ("answered ", "", "The request was answered before."),
 ];
 
-/// Adds the line of the sentence that the facts come to, if they come to one.
+/// Adds the line of the sentence that a row has for the facts, if one does.
 ///
 /// # Errors
 /// `Memory` where memory was refused.

@@ -89,5 +89,5 @@ module _ {run : Run} {empty grown shown : List ℕ} (clear : empty ≡ []) (same
     said = json_lines s.said;
     added = objects_of grown s.said shown old new (s.added ∙ ap (λ w. w ++ s.said) clear) same
         objects;
-    is = λ tail fits. (s.said, s.is tail fits, refl);
+    is = λ tail fits. let own = s.is tail fits in ((s.said, own.0, refl), own.1);
   }

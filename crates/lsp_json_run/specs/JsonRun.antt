@@ -3,7 +3,9 @@ use Rattle.std.specs.Prelude.{◌≡◌, ℕ, List, [], false, Result}
 use Rattle.lsp_docs.specs.Documents.{Terms}
 use Rattle.lsp_frame.specs.Bounds.{Bounds}
 use Rattle.lsp_json.specs.Rows.{json_lines}
-use Rattle.lsp_replay.specs.Run.{Passes, Run}
+use Rattle.lsp_json_run.specs.declared.form.Form.{Form}
+use Rattle.lsp_json_run.specs.declared.form.Form.TheVariants as forms
+use Rattle.lsp_replay.specs.Run.{PassesOn, Run}
 use Rattle.lsp_verdict.specs.Heard.{Heard, Rests}
 use Rattle.lsp_verdict.specs.Runs.{Ports}
 use Rattle.lsp_verdict.specs.declared.outcome.Outcome.{Outcome}
@@ -20,9 +22,14 @@ json_run run = record {
   wants = run.wants;
   stops = run.stops;
   ends = run.ends;
-  closes = λ terms heard tail out outcome.
-      IsJson (λ said. run.closes terms heard tail said outcome) out;
+  closes = λ terms heard tail out. IsJson (run.closes terms heard tail) out;
+  finishes = run.finishes;
 }
+
+-- the run in a form
+abbrev pub run_in : Form → Run → Run
+run_in forms.Lines run = run
+run_in forms.Json run = json_run run
 
 -- where the run wants no memory, it says nothing
 abbrev pub IsQuiet : Run → Type 0
@@ -31,6 +38,4 @@ IsQuiet run = (terms : Terms) (rests : Rests) (before : List Heard) (h : Heard) 
 
 -- **this is what a run writes as JSON, and how it ends**, on this input and into this output
 abbrev pub WritesJson : Run → Bounds → Ports → Result Outcome RunFault → Type 0
-WritesJson run limits io result =
-    Passes (json_run run) limits io.source_before io.source_after io.sink_before io.sink_after
-    result
+WritesJson run = PassesOn (json_run run)

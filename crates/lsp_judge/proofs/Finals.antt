@@ -21,9 +21,10 @@ use Rattle.lsp_verdict.specs.Complete.{IsFinalBy, completed}
 use Rattle.lsp_verdict.specs.Event.{Event, sent_in}
 use Rattle.lsp_verdict.specs.Given.{summary_view, as_given}
 use Rattle.lsp_verdict.specs.Outcome.{IsFinal}
-use Rattle.lsp_judge.specs.Standing.{closed_by, end_by, end_rule, ends_with, verdict_in, HasHeard}
+use Rattle.lsp_judge.specs.Standing.{closed_by, end_by, ends_with, verdict_in, HasHeard}
 use Rattle.lsp_judge.specs.Standing.{State, HasOffence, Stands}
 use Rattle.lsp_judge.specs.JudgingRun.{completed_by}
+use Rattle.lsp_replay.specs.SessionEnd.{first_end}
 use Rattle.lsp_replay.specs.Standing.{Follows}
 use Rattle.lsp_verdict.specs.Placed.{Raw, IsSession}
 use Rattle.lsp_verdict.specs.Verdict.{Ending, Verdict, yes, bad_log, bad_log_of, first_no, no_next}
@@ -238,7 +239,7 @@ sound_closed completeness terms events e end given sound is =
     (ends_inside e.streams.server)))) sound)
 
 module _ (completeness : Completeness) (terms : Terms) (events : List Event) (editor server : Bool)
-    (o : Option (ℕ × Who)) (is : o ≡ end_rule completeness events editor server) where
+    (o : Option (ℕ × Who)) (is : o ≡ first_end completeness events editor server) where
   pub no_ends : (rule : ℕ) (by : Who) (ruling : Ruling) → o ≡ Some (rule, by)
       → verdict_in ruling ≡ Some (as_given (no_next rule by events))
       → IfSome (verdict_in ruling)

@@ -9,12 +9,13 @@ use Rattle.lsp_log.specs.declared.fault.LogCode.{LogCode}
 use Rattle.lsp_session.specs.State as session
 use Rattle.lsp_types.specs.declared.side.Side.{Side}
 use Rattle.lsp_types.specs.declared.side.Side.TheVariants.{Editor, Server}
-use Rattle.lsp_judge.specs.Standing.{closed_by, end_by, end_rule, ends_with}
+use Rattle.lsp_judge.specs.Standing.{closed_by, end_by, ends_with}
 use Rattle.lsp_judge.specs.JudgingRun.{JudgingAsked, completed_by, due_for, judging_run, said_by}
 use Rattle.lsp_judge.specs.JudgingRun.{verdict_of}
 use Rattle.lsp_replay.specs.Lines.{shown_line}
 use Rattle.lsp_judge.proofs.Finals.{by_end, by_log}
 use Rattle.lsp_replay.specs.Run.{Tail}
+use Rattle.lsp_replay.specs.SessionEnd.{first_end}
 use Rattle.lsp_replay.specs.Standing.{Follows}
 use Rattle.lsp_replay.specs.Streams.{decoder_of, ends_inside}
 use Rattle.lsp_replay.specs.Telling.{Closes, IsEnd, Says, Stood, no_of, rule_of}
@@ -88,7 +89,7 @@ end_exact : (completeness : Completeness) (terms : Terms) (events : List Event)
     → as_given (end_by completeness terms events editor server)
     ≡ end_by completeness terms events editor server
 end_exact completeness terms events editor server few =
-    by_rule (end_rule completeness events editor server)
+    by_rule (first_end completeness events editor server)
   where
     by_rule : (o : Option (ℕ × Who))
         → as_given (ends_with terms events o) ≡ ends_with terms events o

@@ -73,9 +73,9 @@ judging_run asked = record {
   stops = λ terms before h. is_some (no_of terms before h);
   ends = λ terms before h outcome.
       (v : Verdict) × (no_of terms before h ≡ Some v) × IsJudged v outcome;
-  closes = λ terms heard tail out outcome.
-      (out ≡ due_for asked.form (verdict_of asked.completeness terms heard tail))
-      × IsJudged (verdict_of asked.completeness terms heard tail) outcome;
+  closes = λ terms heard tail out.
+      out ≡ due_for asked.form (verdict_of asked.completeness terms heard tail);
+  finishes = λ terms heard tail. IsJudged (verdict_of asked.completeness terms heard tail);
 }
 
 -- that of `check`, whether or not the session must be complete

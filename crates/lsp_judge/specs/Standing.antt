@@ -5,10 +5,10 @@ use Rattle.std.specs.List.{AllZip}
 use Rattle.lsp_frame.specs.Bounds.{Bounds, IsInRange}
 use Rattle.lsp_frame.specs.declared.format.Format.{Format}
 use Rattle.lsp_session.specs.State as session
-use Rattle.lsp_session.specs.Incomplete.{incomplete}
 use Rattle.lsp_docs.specs.State as docs
 use Rattle.lsp_docs.specs.Documents.{Terms, terms_of}
 use Rattle.lsp_log.specs.Log.{Record}
+use Rattle.lsp_replay.specs.SessionEnd.{first_end}
 use Rattle.lsp_replay.specs.Standing.{Follows}
 use Rattle.lsp_replay.specs.Streams as frames
 use Rattle.lsp_replay.specs.LogEvents.{flaw_of}
@@ -133,19 +133,6 @@ pub record Stands (s : State) (records : List Record) : Type 0 where
 
 -- ---- what it answers where no event offends and they end
 
--- 303 or 407 where they are broken and the session must be complete
-abbrev pub lack_rule : Completeness → List Event → Option ℕ
-lack_rule Ignored events = None
-lack_rule Required events = incomplete (sent_in events)
-
--- the rule that is broken where it ends, and by whom: a rest of the editor's or the server's, else
--- what is missing
-abbrev pub end_rule : Completeness → List Event → Bool → Bool → Option (ℕ × Who)
-end_rule completeness events true server = Some (rules.STREAM_ENDS_INSIDE_FRAME, who.Editor)
-end_rule completeness events false true = Some (rules.STREAM_ENDS_INSIDE_FRAME, who.Server)
-end_rule completeness events false false =
-    option_map (λ rule. (rule, who.Editor)) (lack_rule completeness events)
-
 -- the verdict: the No by it, else Yes
 abbrev pub ends_with : Terms → List Event → Option (ℕ × Who) → Verdict
 ends_with terms events None = yes (summary terms events)
@@ -153,7 +140,7 @@ ends_with terms events (Some broken) = no_next broken.0 broken.1 events
 
 abbrev pub end_by : Completeness → Terms → List Event → Bool → Bool → Verdict
 end_by completeness terms events editor server =
-    ends_with terms events (end_rule completeness events editor server)
+    ends_with terms events (first_end completeness events editor server)
 
 -- what is given where the log ends so after them, as far as its reader tells: its fault, else that
 abbrev pub closed_by : Completeness → Terms → List Event → LogEvents → End → Verdict

@@ -1,16 +1,15 @@
 //! What is given where a session ends of which no event offends.
 ghost use Rattle.std.specs.Prelude.{◌≡◌, IfOk, List};
 ghost use Rattle.lsp_replay.specs.Standing.{Follows};
-ghost use Rattle.lsp_judge.specs.Standing.{EndIs, closed_by, end_by, end_rule};
+ghost use Rattle.lsp_judge.specs.Standing.{EndIs, closed_by, end_by};
 ghost use Rattle.lsp_verdict.specs.Event.{Event};
 ghost use Rattle.lsp_verdict.specs.Given.{verdict_view};
 
 use crate::ruling::Ruling;
-use lsp_replay::{End, Events, LogEvents, summary_of};
+use lsp_replay::{End, Events, LogEvents, first_end, summary_of};
 use lsp_rpc::{Result, Side};
 use lsp_text::TextStore;
-use lsp_types::rules;
-use lsp_verdict::{Completeness, Summary, Verdict, Who};
+use lsp_verdict::{Completeness, Summary, Verdict};
 
 /// The verdict where the log ends so after these events: a fault of it, or what its session gives.
 pub(crate) fn verdict_at<S: TextStore>(
@@ -46,33 +45,8 @@ pub(crate) fn end_of<S: TextStore>(
         so_far
         → EndIs result (end_by completeness events.now.docs.terms so_far editor server) }
 {
-    match end_rule(events, editor, server, completeness) {
+    match first_end(events, editor, server, completeness) {
         Some((rule, who)) => Err(Ruling::no_next(&events.counts, rule, who)),
         None => Ok(summary_of(events.docs.alloc(), events)?),
-    }
-}
-
-/// The rule that is broken where the session ends, and by whom: bytes of the editor's or the
-/// server's are not a whole frame; or, where it must be complete, a request of the editor's has no
-/// answer, else an `exit` was not sent.
-fn end_rule<S: TextStore>(
-    events: &Events<S>,
-    editor: bool,
-    server: bool,
-    completeness: Completeness,
-) -> Option<(u16, Who)>
-    ensures { (so_far : List Event) → Follows events.now.session events.now.docs events.now.counts
-        so_far
-        → result ≡ end_rule completeness so_far editor server }
-{
-    if editor {
-        return Some((rules::STREAM_ENDS_INSIDE_FRAME, Who::Editor));
-    }
-    if server {
-        return Some((rules::STREAM_ENDS_INSIDE_FRAME, Who::Server));
-    }
-    match completeness {
-        Completeness::Ignored => None,
-        Completeness::Required => Some((events.session.incomplete()?, Who::Editor)),
     }
 }

@@ -104,9 +104,8 @@ redact_run most = record {
   wants = λ terms before h. true;
   stops = λ terms before h. is_some (rule_of terms before h);
   ends = λ terms before h outcome. EndsBy h.raw (no_of terms before h) outcome;
-  closes = λ terms heard tail out outcome.
-      (out ≡ whole_log most terms (heard_events heard))
-      × EndsAs (fault_at (heard_events heard) tail) outcome;
+  closes = λ terms heard tail out. out ≡ whole_log most terms (heard_events heard);
+  finishes = λ terms heard tail outcome. EndsAs (fault_at (heard_events heard) tail) outcome;
 }
 
 -- ---- a step

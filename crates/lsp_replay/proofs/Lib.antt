@@ -22,3 +22,5 @@ pub mod JudgedRuns
 pub mod SeenLines
 pub mod AllHeard
 pub mod TextRuns
+pub mod Outputs
+pub mod RunLaws

@@ -16,12 +16,15 @@ use Rattle.lsp_verdict.specs.Offences.{Noted}
 use Rattle.lsp_verdict.specs.Verdict.{count_of, is_of, Verdict}
 use Rattle.lsp_verdict.specs.declared.counts.Counts.{Counts}
 use Rattle.lsp_verdict.specs.Shown.{TextAnswer, held_answer, missing_answer, BeginsText, EndsAs}
-use Rattle.lsp_verdict.specs.Shown.{IsText, written_of}
+use Rattle.lsp_verdict.specs.Shown.{IsText, no_difference, no_document, refused, text_is, too_few}
+use Rattle.lsp_verdict.specs.Shown.{written_of}
 use Rattle.lsp_verdict.specs.declared.verdict.Verdict as code
 use Rattle.lsp_verdict.specs.LookBack.{first_from, first_of}
 use Rattle.lsp_verdict.specs.Outcome.{log_terms}
 use Rattle.lsp_verdict.specs.Runs.{OutputFor, Ports}
 use Rattle.lsp_verdict.specs.declared.outcome.Outcome.{Outcome}
+use Rattle.lsp_verdict.specs.declared.outcome.Outcome.TheVariants.{Done, NoDifference, NoDocument}
+use Rattle.lsp_verdict.specs.declared.outcome.Outcome.TheVariants.{TooFew}
 use Rattle.lsp_verdict.specs.declared.outcome.RunFault.{RunFault}
 use Rattle.lsp_verdict.specs.declared.outcome.RunFault.TheVariants as faults
 use Rattle.lsp_verdict.proofs.LookBackLemmas.{first_of-append}
@@ -39,8 +42,10 @@ use Rattle.lsp_replay.proofs.Seeing.{events-push}
 use Rattle.lsp_replay.specs.Telling.{Stood, kept_before, no_of, Closes, Says}
 use Rattle.lsp_replay.specs.Run.{DueAt, PartPassed, Passes, EndsAfter, IsPassed, IsTold, Run}
 use Rattle.lsp_replay.specs.Run.{SaysAll, StopsIn, Tail}
+use Rattle.lsp_replay.specs.RunLaws.{HasOneOutput, IsSameEnd}
 use Rattle.lsp_replay.specs.declared.seen.Flow.{Flow}
 use Rattle.lsp_replay.specs.declared.seen.Flow.TheVariants.{GoOn, Stop}
+use Rattle.lsp_replay.proofs.Outputs.{end_same, has_one, judged_same}
 use Rattle.lsp_replay.proofs.PassEnds.{IsQuiet, cut_whole, part_within, quiet_all, silent}
 
 -- ---- whether the editor's n-th message was heard last, or has still to come
@@ -179,6 +184,14 @@ pub no_none : {A : Type 0} (o : Option A) → is_some o ≡ false → o ≡ None
 no_none None goes = refl
 no_none (Some v) goes = absurd (cc goes)
 
+ends_same : (answer : TextAnswer) (a b : Outcome) → EndsAs answer a → EndsAs answer b
+    → IsSameEnd a b
+ends_same (text_is text) a b p q = end_same Done a b refl p q
+ends_same no_document a b p q = end_same NoDocument a b refl p q
+ends_same too_few a b p q = end_same TooFew a b refl p q
+ends_same no_difference a b p q = end_same NoDifference a b refl p q
+ends_same (refused v) a b p q = judged_same v a b p q
+
 module _ (answer_at : Terms → List Heard → Heard → Option TextAnswer)
     (answer_behind : Terms → List Heard → Tail → TextAnswer) where
   abbrev run : Run
@@ -227,9 +240,27 @@ module _ (answer_at : Terms → List Heard → Heard → Option TextAnswer)
 
   -- ---- a pass of it
 
-  quiet : IsQuiet run
+  pub quiet : IsQuiet run
   quiet terms rests before h said is goes =
       is ∙ ap said_of (no_none (answer_at terms before h) goes)
+
+  one_end : (terms : Terms) (before : List Heard) (h : Heard) (a b : Outcome)
+      → run.ends terms before h a → run.ends terms before h b → IsSameEnd a b
+  one_end terms before h a b (answer, is, ends) (other, at, also) =
+      let same : answer ≡ other = cc (sym is ∙ at) in
+      ends_same other a b (subst (λ (x : TextAnswer). EndsAs x a) same ends) also
+
+  -- **a log has one answer**
+  pub has_one_answer : HasOneOutput run
+  has_one_answer = has_one run (record {
+    says = λ terms rests before h a b p q. p ∙ sym q;
+    closes = λ terms heard tail a b p q. p ∙ sym q;
+    ends = one_end;
+    finishes = λ terms heard tail a b. ends_same (answer_behind terms heard tail) a b;
+  }) (record {
+    says = λ terms rests before h. (said_of (answer_at terms before h), refl);
+    closes = λ terms heard tail. (written_of (answer_behind terms heard tail), refl);
+  })
 
   -- no event has an answer at which it does not stop
   none_from : (terms : Terms) (rests : Rests) (before hs : List Heard) (out : List ℕ)

@@ -1,4 +1,5 @@
 pub mod Standing
+pub mod SessionEnd
 pub mod Tries
 pub mod Lines
 pub mod Streams
@@ -9,3 +10,4 @@ pub mod Telling
 pub mod Keeping
 pub mod TextAnswers
 pub mod Run
+pub mod RunLaws

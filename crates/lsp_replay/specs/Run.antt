@@ -20,7 +20,7 @@ use Rattle.lsp_verdict.specs.Verdict.{Verdict}
 use Rattle.lsp_verdict.specs.declared.outcome.Outcome.{Outcome}
 use Rattle.lsp_verdict.specs.declared.outcome.Outcome.TheVariants.{Judged}
 use Rattle.lsp_verdict.specs.declared.verdict.Verdict as code
-use Rattle.lsp_verdict.specs.Runs.{OfRead, failures_after, sink_failures_after}
+use Rattle.lsp_verdict.specs.Runs.{OfRead, Ports, failures_after, sink_failures_after}
 use Rattle.lsp_verdict.specs.declared.outcome.RunFault.{RunFault}
 use Rattle.lsp_verdict.specs.declared.outcome.RunFault.TheVariants as faults
 
@@ -33,14 +33,15 @@ pub record Tail : Type 0 where
   pub rests : Rests
 
 -- **a run**: what it says of an event after these, whether it may want memory to say or to note it,
--- whether it stops there, and how it ends then; and what it says at the end of the log after all of
+-- whether it stops there, and how it ends then; what it says at the end of the log after all of
 -- them, and how it ends there
 pub record Run : Type 1 where
   pub says : Terms → Rests → List Heard → Heard → List ℕ → Type 0
   pub wants : Terms → List Heard → Heard → Bool
   pub stops : Terms → List Heard → Heard → Bool
   pub ends : Terms → List Heard → Heard → Outcome → Type 0
-  pub closes : Terms → List Heard → Tail → List ℕ → Outcome → Type 0
+  pub closes : Terms → List Heard → Tail → List ℕ → Type 0
+  pub finishes : Terms → List Heard → Tail → Outcome → Type 0
 
 -- this is said of these events after those before them, and the run stops at none
 abbrev pub SaysAll : Run → Terms → Rests → List Heard → List Heard → List ℕ → Type 0
@@ -71,6 +72,11 @@ pub record StopsIn (run : Run) (terms : Terms) (rests : Rests) (heard : List Hea
   pub said : SaysAll run terms rests [] first front
   pub stop : StopsAt run terms rests first here last outcome
 
+-- this is what the run says at the end of the log, and so it ends
+abbrev pub ClosesSo : Run → Terms → List Heard → Tail → List ℕ → Outcome → Type 0
+ClosesSo run terms heard tail said outcome =
+    run.closes terms heard tail said × run.finishes terms heard tail outcome
+
 -- it stops at none, and ends with the log
 pub record EndsAfter (run : Run) (terms : Terms) (tail : Tail) (heard : List Heard)
     (out : List ℕ) (outcome : Outcome) : Type 0 where
@@ -78,7 +84,7 @@ pub record EndsAfter (run : Run) (terms : Terms) (tail : Tail) (heard : List Hea
   pub last : List ℕ
   pub is : out ≡ front ++ last
   pub said : SaysAll run terms tail.rests [] heard front
-  pub closes : run.closes terms heard tail last outcome
+  pub closes : ClosesSo run terms heard tail last outcome
 
 -- it ends with this verdict
 abbrev pub IsJudged : Verdict → Outcome → Type 0
@@ -182,6 +188,11 @@ abbrev pub Passes : Run → Bounds → Told → Told → Told → Told → Resul
 Passes run limits start now old new (Ok outcome) = AllPassed run limits start now old new outcome
 Passes run limits start now old new (Err fault) =
     PartPassed run limits start now old new fault
+
+-- **the same on these ports**
+abbrev pub PassesOn : Run → Bounds → Ports → Result Outcome RunFault → Type 0
+PassesOn run limits io result =
+    Passes run limits io.source_before io.source_after io.sink_before io.sink_after result
 
 -- ---- a step
 

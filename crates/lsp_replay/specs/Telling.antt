@@ -16,7 +16,7 @@ use Rattle.lsp_session.specs.Sent.{Sent}
 use Rattle.lsp_session.specs.State as session
 use Rattle.lsp_types.specs.declared.side.Side.{Side}
 use Rattle.lsp_replay.specs.LogEvents.{flaw_of}
-use Rattle.lsp_replay.specs.Run.{Run, Tail}
+use Rattle.lsp_replay.specs.Run.{ClosesSo, Run, Tail}
 use Rattle.lsp_replay.specs.Standing.{HasValue, Holds}
 use Rattle.lsp_replay.specs.Streams as streams
 use Rattle.lsp_replay.specs.Streams.{decoder_of}
@@ -166,9 +166,9 @@ pub record Closes (run : Run) (terms : Terms) (heard : List Heard) (Fits : Tail 
     (old new : List ℕ) (outcome : Outcome) : Type 0 where
   pub said : List ℕ
   pub added : new ≡ old ++ said
-  pub is : (tail : Tail) → Fits tail → run.closes terms heard tail said outcome
+  pub is : (tail : Tail) → Fits tail → ClosesSo run terms heard tail said outcome
 
 -- this is due at the end
 abbrev pub DueAtEnd : Run → Terms → List Heard → LogEvents → End → Outcome → List ℕ → Type 0
 DueAtEnd run terms heard e end outcome said =
-    (tail : Tail) → IsEnd e end heard tail → run.closes terms heard tail said outcome
+    (tail : Tail) → IsEnd e end heard tail → ClosesSo run terms heard tail said outcome

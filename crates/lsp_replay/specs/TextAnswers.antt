@@ -62,8 +62,8 @@ answer_run answer_at answer_behind = record {
   stops = λ terms before h. is_some (answer_at terms before h);
   ends = λ terms before h outcome. (answer : TextAnswer)
       × (answer_at terms before h ≡ Some answer) × EndsAs answer outcome;
-  closes = λ terms heard tail out outcome. (out ≡ written_of (answer_behind terms heard tail))
-      × EndsAs (answer_behind terms heard tail) outcome;
+  closes = λ terms heard tail out. out ≡ written_of (answer_behind terms heard tail);
+  finishes = λ terms heard tail outcome. EndsAs (answer_behind terms heard tail) outcome;
 }
 
 -- it stops with this answer, which is said

@@ -4,7 +4,6 @@ pub mod PassedSteps
 pub mod Losing
 pub mod SessionEnds
 pub mod Reporting
-pub mod KeptTexts
 pub mod SurveySteps
 pub mod SurveyRuns
 pub mod Showing

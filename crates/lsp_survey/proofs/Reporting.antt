@@ -6,28 +6,20 @@ use Rattle.std.proofs.Common.{◌≡◌, ℕ, ◌+◌, ◌<◌, ◌≤◌, ◌^�
 use Rattle.std.proofs.Common.{[], ◌∷◌, ◌++◌, Option, Some, None, refl, sym, ap, subst, ◌∙◌}
 use Rattle.std.proofs.Common.{append-nil, append_assoc}
 use Rattle.std.proofs.lemmas.List.Concat.{flat_map-append}
-use Rattle.lsp_frame.specs.Bounds.{Bounds, IsInRange}
-use Rattle.lsp_survey.specs.Reported.{IsReported, IsTally, closing, count_line, is_every, lines_of}
+use Rattle.lsp_survey.specs.Reported.{IsTally, closing, count_line, is_every, lines_of}
 use Rattle.lsp_survey.specs.Reported.{verdict_lines}
 use Rattle.lsp_survey.specs.declared.offence_count.OffenceCount.{OffenceCount}
-use Rattle.lsp_verdict.specs.Complete.{IsCompleteVerdict, IsVerdictBy}
 use Rattle.lsp_verdict.specs.Given.{offence_view}
 use Rattle.lsp_verdict.specs.Offences.{Offence}
-use Rattle.lsp_verdict.specs.Outcome.{IsVerdict}
 use Rattle.lsp_verdict.specs.Report.{line, report}
 use Rattle.lsp_verdict.specs.Survey.{all_report, bad_lines, first_verdict, found_line}
 use Rattle.lsp_verdict.specs.Survey.{offence_lines, shown_of}
 use Rattle.lsp_verdict.specs.Verdict.{Summary, Verdict}
-use Rattle.lsp_verdict.specs.declared.completeness.Completeness.{Completeness}
-use Rattle.lsp_verdict.specs.declared.completeness.Completeness.TheVariants.{Ignored, Required}
 use Rattle.lsp_verdict.specs.declared.listing.Listing.{Listing}
 use Rattle.lsp_verdict.specs.declared.listing.Listing.TheVariants.{Causes, Every}
 use Rattle.lsp_verdict.specs.declared.offence.Offence as code
 use Rattle.lsp_verdict.proofs.Finding.{map_one}
-use Rattle.lsp_verdict.proofs.Completing.{some_complete_verdict}
 use Rattle.lsp_verdict.proofs.ExactCounts.{capped_is}
-use Rattle.lsp_verdict.proofs.Logs.{some_verdict}
-use Rattle.lsp_verdict.proofs.Offences.Surveying.{survey_agrees}
 
 -- ---- lines
 
@@ -133,21 +125,6 @@ count_some t (o ∷ found) tally few some =
     "following" ∷ decimal n ∷ [])) following
 
 -- ---- offences one after another
-
--- the verdict with which the report comes is that on the log
-pub reported_verdict : (completeness : Completeness) (limits : Bounds) → IsInRange limits
-    → (listing : Listing) (log : List ℕ) (v : Verdict) (out : List ℕ)
-    → IsReported completeness limits listing log v out → IsVerdictBy completeness limits log v
-reported_verdict Ignored limits sizes listing log v out r =
-    let whole = some_verdict limits log in
-    subst (IsVerdict limits log)
-    (survey_agrees Ignored limits sizes log r.found r.bad r.s whole.0 r.survey whole.1
-    ∙ sym r.comes_to) whole.1
-reported_verdict Required limits sizes listing log v out r =
-    let whole = some_complete_verdict limits log in
-    subst (IsCompleteVerdict limits log)
-    (survey_agrees Required limits sizes log r.found r.bad r.s whole.0 r.survey whole.1
-    ∙ sym r.comes_to) whole.1
 
 pub first_none : (xs ys : List Offence) → xs ++ ys ≡ [] → xs ≡ []
 first_none [] ys e = refl

@@ -13,6 +13,7 @@ use Rattle.lsp_verdict.specs.Survey.{first_verdict}
 use Rattle.lsp_verdict.specs.Verdict.{no_next, Verdict, first_no, summary, yes}
 use Rattle.lsp_verdict.specs.declared.completeness.Completeness.{Completeness}
 use Rattle.lsp_verdict.specs.declared.completeness.Completeness.TheVariants.{Ignored, Required}
+use Rattle.lsp_verdict.specs.declared.verdict.Who.{Who}
 use Rattle.lsp_verdict.specs.declared.verdict.Who.TheVariants as who
 use Rattle.lsp_verdict.specs.Given.{as_given, offence_view}
 use Rattle.lsp_verdict.specs.Heard.{Heard, heard_events}
@@ -23,6 +24,7 @@ use Rattle.lsp_verdict.proofs.ExactCounts.{yes_exact}
 use Rattle.lsp_docs.specs.State as docs
 use Rattle.lsp_docs.specs.Documents.{Terms}
 use Rattle.lsp_replay.specs.Run.{Tail}
+use Rattle.lsp_replay.specs.SessionEnd.{first_end}
 use Rattle.lsp_replay.specs.Standing.{Follows}
 use Rattle.lsp_replay.specs.Streams as streams
 use Rattle.lsp_replay.specs.Streams.{decoder_of}
@@ -32,24 +34,30 @@ use Rattle.lsp_replay.specs.declared.log_events.End.TheVariants.{Bad, Sound}
 use Rattle.lsp_replay.specs.declared.log_events.LogEvents.{LogEvents}
 use Rattle.lsp_replay.proofs.AllHeard.{few_events, follows_all}
 use Rattle.lsp_types.specs.declared.side.Side.TheVariants.{Editor, Server}
-use Rattle.lsp_survey.specs.SessionEnds.{lack_by, listed_by, rest_rule, ends_held, ends_of}
+use Rattle.lsp_survey.specs.SessionEnds.{ends_held, ends_of, listed_by, second_end}
 use Rattle.lsp_survey.specs.Reported.{IsTally, verdict_lines}
 use Rattle.lsp_survey.specs.declared.offence_count.OffenceCount.{OffenceCount}
 
 -- ---- what is listed of the end of a session
 
--- both rests, and where there is none what is missing
+-- what is broken first, and behind it the server's 107
 pub ends_are : (completeness : Completeness) (events kept : List Event) (editor server : Bool)
-    → (([] ++ listed_by (rest_rule editor) who.Editor events)
-    ++ listed_by (rest_rule server) who.Server events)
-    ++ listed_by (lack_by editor server completeness kept) who.Editor events
+    → ([] ++ listed_by (first_end completeness kept editor server) events)
+    ++ listed_by (second_end editor server) events
     ≡ map by_itself (first_ends None (rests_listed events editor server)
     (lacks_listed completeness events kept))
 ends_are completeness events kept true true = refl
 ends_are completeness events kept true false = refl
 ends_are completeness events kept false true = refl
 ends_are Ignored events kept false false = refl
-ends_are Required events kept false false = refl
+ends_are Required events kept false false = by_rule (incomplete (sent_in kept))
+  where
+    by_rule : (o : Option ℕ)
+        → ([] ++ listed_by (option_map (λ rule. (rule, who.Editor)) o) events) ++ []
+        ≡ map by_itself
+        (option_to_list (option_map (λ (rule : ℕ). no_next rule who.Editor events) o))
+    by_rule None = refl
+    by_rule (Some rule) = refl
 
 -- ---- few
 
@@ -112,22 +120,18 @@ module _ (terms : Terms) (heard : List Heard) (m : session.State) (d : docs.Stat
 
   -- what is listed of the end of a log without a fault
   pub ends_given : (completeness : Completeness) (e : LogEvents) (editor server : Bool)
-      (one two three : Option ℕ) (none first second last : List Offence)
+      (one two : Option (ℕ × Who)) (none first last : List Offence)
       → editor ≡ streams.ends_inside (decoder_of Editor e.streams)
-      → server ≡ streams.ends_inside (decoder_of Server e.streams) → one ≡ rest_rule editor
-      → two ≡ rest_rule server
-      → three ≡ lack_by editor server completeness (kept_of terms events) → none ≡ []
-      → first ≡ none ++ listed_by one who.Editor events
-      → second ≡ first ++ listed_by two who.Server events
-      → last ≡ second ++ listed_by three who.Editor events
+      → server ≡ streams.ends_inside (decoder_of Server e.streams)
+      → one ≡ first_end completeness (kept_of terms events) editor server
+      → two ≡ second_end editor server → none ≡ []
+      → first ≡ none ++ listed_by one events → last ≡ first ++ listed_by two events
       → last ≡ map by_itself (ends_held completeness terms heard e Sound)
-  ends_given completeness e editor server one two three none first second last is_editor is_server
-      one_is two_is three_is empty e_one e_two e_three =
-      e_three ∙ ap (λ l. l ++ listed_by three who.Editor events)
-      (e_two ∙ ap (λ l. l ++ listed_by two who.Server events)
-      (e_one ∙ ap (λ l. l ++ listed_by one who.Editor events) empty))
-      ∙ (λ i. (([] ++ listed_by (one_is i) who.Editor events)
-      ++ listed_by (two_is i) who.Server events) ++ listed_by (three_is i) who.Editor events)
+  ends_given completeness e editor server one two none first last is_editor is_server one_is two_is
+      empty e_one e_two =
+      e_two ∙ ap (λ l. l ++ listed_by two events)
+      (e_one ∙ ap (λ l. l ++ listed_by one events) empty)
+      ∙ (λ i. ([] ++ listed_by (one_is i) events) ++ listed_by (two_is i) events)
       ∙ ends_are completeness events (kept_of terms events) editor server
       ∙ (λ i. map by_itself (first_ends None (rests_listed events (is_editor i) (is_server i))
       (lacks_listed completeness events (kept_of terms events))))

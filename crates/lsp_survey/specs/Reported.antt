@@ -1,51 +1,21 @@
--- What is due where all that is wrong with a log is reported, and what the steps of the run write.
+-- The lines by which all that is wrong with a log is reported.
 use Rattle.std.specs.Prelude.{◌≡◌, ℕ, List, [], ◌∷◌, ◌++◌, filter, length, Bool, true, false}
-use Rattle.std.specs.Prelude.{Option, Some, None, option_map, Result}
+use Rattle.std.specs.Prelude.{Option, Some, None, option_map}
 use Rattle.std.specs.List.{flat_map}
 use Rattle.lsp_docs.specs.State.{capped}
-use Rattle.lsp_frame.specs.Bounds.{Bounds}
 use Rattle.lsp_verdict.specs.declared.listing.Listing.{Listing}
 use Rattle.lsp_verdict.specs.declared.listing.Listing.TheVariants.{Causes, Every}
 use Rattle.lsp_survey.specs.declared.offence_count.OffenceCount.{OffenceCount}
-use Rattle.lsp_verdict.specs.Complete.{IsVerdictBy}
 use Rattle.lsp_verdict.specs.Given.{offence_view}
 use Rattle.lsp_verdict.specs.Offences.{Offence}
-use Rattle.lsp_verdict.specs.Runs.{Ports, Judges}
-use Rattle.lsp_verdict.specs.Survey.{IsSurvey, all_report, bad_lines, first_verdict, found_line}
-use Rattle.lsp_verdict.specs.Survey.{offence_lines, shown_of}
+use Rattle.lsp_verdict.specs.Survey.{bad_lines, first_verdict, found_line, offence_lines, shown_of}
 use Rattle.lsp_verdict.specs.Report.{report}
 use Rattle.lsp_verdict.specs.Verdict.{Summary, Verdict}
-use Rattle.lsp_verdict.specs.declared.outcome.Outcome.{Outcome}
-use Rattle.lsp_verdict.specs.declared.outcome.RunFault.{RunFault}
-use Rattle.lsp_verdict.specs.declared.completeness.Completeness.{Completeness}
-
--- ---- the report of a log
 
 -- whether those that follow from earlier ones are listed too
 abbrev pub is_every : Listing → Bool
 is_every Causes = false
 is_every Every = true
-
--- **these bytes are the report of all that is wrong with a log**, and this the verdict on it
-pub record IsReported (completeness : Completeness) (limits : Bounds) (listing : Listing)
-    (log : List ℕ) (v : Verdict) (out : List ℕ) : Type 0 where
-  pub found : List Offence
-  pub bad : Option Verdict
-  pub s : Summary
-  pub survey : IsSurvey completeness limits log found bad s
-  pub written : out ≡ all_report (is_every listing) found bad s
-  pub comes_to : v ≡ first_verdict found bad s
-
--- these bytes begin it
-abbrev pub BeginsReported : Completeness → Bounds → Listing → List ℕ → List ℕ → Type 0
-BeginsReported completeness limits listing log front =
-    (v : Verdict) × (left : List ℕ) × IsReported completeness limits listing log v (front ++ left)
-
--- **what `check --all` answers and writes**
-abbrev pub SurveysLog : Completeness → Listing → Bounds → Ports → Result Outcome RunFault → Type 0
-SurveysLog completeness listing limits io result =
-    Judges limits io (IsVerdictBy completeness limits) (IsReported completeness limits listing)
-    (BeginsReported completeness limits listing) result
 
 -- ---- its lines
 

@@ -1,17 +1,16 @@
 -- How the session of a log ends: what is listed of that, and the verdict on all that is listed.
 use Rattle.std.specs.Prelude.{List, Bool, true, false, ℕ, Option, Some, None, map, option_map}
 use Rattle.std.specs.Prelude.{option_to_list, ◌++◌}
-use Rattle.lsp_session.specs.Incomplete.{incomplete}
 use Rattle.lsp_types.specs.declared.rules.TheConstants as rules
 use Rattle.lsp_types.specs.declared.side.Side.TheVariants.{Editor, Server}
-use Rattle.lsp_verdict.specs.Event.{Event, sent_in}
+use Rattle.lsp_verdict.specs.Event.{Event}
 use Rattle.lsp_verdict.specs.Offences.{Offence, kept_of, offences}
 use Rattle.lsp_verdict.specs.Survey.{by_itself, ends_listed, first_ends, first_verdict}
 use Rattle.lsp_verdict.specs.Survey.{lacks_listed, rests_listed}
 use Rattle.lsp_verdict.specs.Verdict.{no_next, Verdict, bad_log_of, summary}
 use Rattle.lsp_verdict.specs.declared.completeness.Completeness.{Completeness}
-use Rattle.lsp_verdict.specs.declared.completeness.Completeness.TheVariants.{Ignored, Required}
 use Rattle.lsp_verdict.specs.declared.verdict.Who.{Who}
+use Rattle.lsp_verdict.specs.declared.verdict.Who.TheVariants as who
 use Rattle.lsp_verdict.specs.Heard.{Heard, heard_events, notes_of}
 use Rattle.lsp_verdict.specs.Outcome.{ending}
 use Rattle.lsp_docs.specs.Documents.{Terms}
@@ -24,23 +23,16 @@ use Rattle.lsp_replay.specs.declared.log_events.LogEvents.{LogEvents}
 
 -- ---- what is listed of the end of a log without a fault
 
--- the offence of the end by this rule, if one is broken
-abbrev pub listed_by : Option ℕ → Who → List Event → List Offence
-listed_by rule by events =
-    map by_itself (option_to_list (option_map (λ (r : ℕ). no_next r by events) rule))
+-- the offence of the end by this rule, if one is broken, and whose it is
+abbrev pub listed_by : Option (ℕ × Who) → List Event → List Offence
+listed_by broken events = map by_itself
+    (option_to_list (option_map (λ (b : ℕ × Who). no_next b.0 b.1 events) broken))
 
--- 107, where a stream ends inside a frame
-abbrev pub rest_rule : Bool → Option ℕ
-rest_rule true = Some rules.STREAM_ENDS_INSIDE_FRAME
-rest_rule false = None
-
--- 303 or 407, where neither stream does, the session must be complete, and these events leave a
--- request without an answer, or have no `exit`
-abbrev pub lack_by : Bool → Bool → Completeness → List Event → Option ℕ
-lack_by true server completeness kept = None
-lack_by false true completeness kept = None
-lack_by false false Ignored kept = None
-lack_by false false Required kept = incomplete (sent_in kept)
+-- what is listed behind the rule that is broken first: the server's 107, where the editor has one
+abbrev pub second_end : Bool → Bool → Option (ℕ × Who)
+second_end true true = Some (rules.STREAM_ENDS_INSIDE_FRAME, who.Server)
+second_end true false = None
+second_end false server = None
 
 -- ---- the end of any log, and the verdict on all that is listed of it
 

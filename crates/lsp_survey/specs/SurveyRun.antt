@@ -53,11 +53,10 @@ survey_run options = record {
       || has_lines options (offence_at terms (notes_of before) h.note);
   stops = λ terms before h. false;
   ends = λ terms before h outcome. ⊥;
-  closes = λ terms heard tail out outcome.
-      (out ≡ end_said options terms heard tail.fault
-      (ends_of options.completeness terms heard tail))
-      × IsJudged (all_verdict terms heard tail.fault
-      (ends_of options.completeness terms heard tail)) outcome;
+  closes = λ terms heard tail out. out ≡ end_said options terms heard tail.fault
+      (ends_of options.completeness terms heard tail);
+  finishes = λ terms heard tail. IsJudged (all_verdict terms heard tail.fault
+      (ends_of options.completeness terms heard tail));
 }
 
 -- that of `check --all` and `check --every`

@@ -3,16 +3,15 @@ ghost use Rattle.std.specs.Prelude.{◌≡◌, ◌++◌, ◌+◌, ◌<◌, ◌^�
 ghost use Rattle.std.specs.Prelude.{option_map};
 ghost use Rattle.lsp_docs.specs.Documents.{Terms};
 ghost use Rattle.lsp_replay.specs.LogEvents.{flaw_of};
-ghost use Rattle.lsp_replay.specs.Standing.{Holds};
 ghost use Rattle.lsp_replay.specs.Telling.{Stood};
-ghost use Rattle.lsp_survey.specs.SessionEnds.{lack_by, listed_by, rest_rule, ends_held};
+ghost use Rattle.lsp_survey.specs.SessionEnds.{ends_held, listed_by, second_end};
 ghost use Rattle.lsp_verdict.specs.Given.{AreCounts, offence_view, verdict_view};
 ghost use Rattle.lsp_verdict.specs.Event.{Event};
 ghost use Rattle.lsp_verdict.specs.Heard.{Heard};
 ghost use Rattle.lsp_verdict.specs.Survey.{by_itself};
 ghost use Rattle.lsp_verdict.specs.Verdict.{bad_log_of};
 
-use lsp_replay::{End, Events, LogEvents};
+use lsp_replay::{End, Events, LogEvents, first_end};
 use lsp_rpc::{Result, Side};
 use lsp_text::Lined;
 use lsp_types::rules;
@@ -54,47 +53,32 @@ pub fn session_end(
     let editor = log.ends_inside(Side::Editor);
     let server = log.ends_inside(Side::Server);
     let counts = &held.counts;
-    list(&mut listed, counts, rest_rule(editor), Who::Editor)?;
-    list(&mut listed, counts, rest_rule(server), Who::Server)?;
-    let lack = lack(held, editor, server, completeness);
-    list(&mut listed, counts, lack, Who::Editor)?;
+    let first = first_end(held, editor, server, completeness);
+    list(&mut listed, counts, first)?;
+    list(&mut listed, counts, second_end(editor, server))?;
     Ok(SessionEnd { listed, bad: None })
 }
 
 /// Lists the offence of the end by this rule, if one is broken, whose it is.
-fn list(listed: &mut Vec<Offence>, counts: &Counts, rule: Option<u16>, by: Who) -> Result<()>
+fn list(listed: &mut Vec<Offence>, counts: &Counts, broken: Option<(u16, Who)>) -> Result<()>
     ensures { OnOk result ((events : List Event) → AreCounts counts.now events
         → length events + 1 < 2 ^ 64 → map offence_view listed.new.items
-        ≡ map offence_view listed.old.items ++ listed_by rule by events) }
+        ≡ map offence_view listed.old.items ++ listed_by broken events) }
 {
-    let Some(rule) = rule else {
+    let Some((rule, by)) = broken else {
         return Ok(());
     };
     listed.push(Offence::next(counts, rule, by, false))?;
     Ok(())
 }
 
-/// 107 for a side whose stream ends inside a frame.
-fn rest_rule(inside: bool) -> Option<u16>
-    ensures { result ≡ rest_rule inside }
+/// 107 for the server, where the streams of both sides end inside a frame.
+fn second_end(editor: bool, server: bool) -> Option<(u16, Who)>
+    ensures { result ≡ second_end editor server }
 {
-    inside.then_some(rules::STREAM_ENDS_INSIDE_FRAME)
-}
-
-/// What is missing from a session, by its rule, where it must be complete and no stream of it ends
-/// inside a frame.
-fn lack(held: &Events<Lined>, editor: bool, server: bool, completeness: Completeness) -> Option<u16>
-    ensures { (kept : List Event) → Holds held.now.session held.now.docs kept
-        → result ≡ lack_by editor server completeness kept }
-{
-    if editor {
-        return None;
-    }
-    if server {
-        return None;
-    }
-    match completeness {
-        Completeness::Ignored => None,
-        Completeness::Required => held.session.incomplete(),
+    if editor && server {
+        Some((rules::STREAM_ENDS_INSIDE_FRAME, Who::Server))
+    } else {
+        None
     }
 }

@@ -1,16 +1,42 @@
-//! Laws of what is due for a log, each the contract of a function that does nothing.
-ghost use Rattle.lsp_survey.specs.AllShown.{OneAllShown, ShowsReport};
-ghost use Rattle.lsp_survey.specs.KeptText.{OneKeptText};
+//! Laws of the runs, each the contract of a function that does nothing.
+ghost use Rattle.lsp_survey.specs.SurveyLaws.{AllShownAnswersVerdict, KeptTextAtItsEnd};
+ghost use Rattle.lsp_survey.specs.SurveyLaws.{OneAllShown, OneKeptText, OneReport};
+ghost use Rattle.lsp_survey.specs.SurveyLaws.{ReportAnswersVerdict, ReportsSurvey, ShowsReport};
 
-/// A log has only one answer for the text after a message, where each event that offends is
+/// Each log has exactly one report of all that is wrong with it.
+pub fn one_report()
+    ensures { OneReport }
+{}
+
+/// All events of a log are shown in exactly one way for each kind of line.
+pub fn one_all_shown()
+    ensures { OneAllShown }
+{}
+
+/// A log has exactly one answer for the text after a message, where each event that offends is
 /// skipped.
 pub fn one_kept_text()
     ensures { OneKeptText }
 {}
 
-/// All events of a log are shown in only one way for each kind of line.
-pub fn one_all_shown()
-    ensures { OneAllShown }
+/// The answer that comes with the report is the verdict on the log.
+pub fn report_answers_verdict()
+    ensures { ReportAnswersVerdict }
+{}
+
+/// So is the one that comes where all events are shown.
+pub fn all_shown_answers_verdict()
+    ensures { AllShownAnswersVerdict }
+{}
+
+/// Nothing of such a text is written before its run ends.
+pub fn kept_text_at_its_end()
+    ensures { KeptTextAtItsEnd }
+{}
+
+/// The report is that of the survey of the log.
+pub fn report_is_of_survey()
+    ensures { ReportsSurvey }
 {}
 
 /// Without the lines of the kept events, what shows all events is the report of every offence.

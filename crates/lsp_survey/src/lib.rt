@@ -1,15 +1,14 @@
 //! All that is wrong with a session, and not only the first offence: an event that offends is
 //! skipped, as if it had not been sent, and the next is judged after those that keep the rules.
 //!
-//! `run_survey` reads a log and writes a report of all its offences, `run_show_all` also shows the
-//! events between them, and `run_text_all` writes the text that is held after a message of the
-//! editor's. `run_survey_json` and `run_show_all_json` write the same as JSON. Each is an account
-//! (`Survey`, and `HeldText` of `lsp_replay`) over the one `pass` of `lsp_replay`. An offence may
-//! follow from an earlier one, after which the two sides no longer agree on a document or on the
-//! handshake; what is an offence, and what follows, is defined in `lsp_verdict`.
+//! `run_survey` reads a log and writes a report of all its offences, and `run_show_all` also shows
+//! the events between them, both in lines or as JSON. `run_text_all` writes the text that is held
+//! after a message of the editor's. Each is an account (`Survey`, and `HeldText` of `lsp_replay`)
+//! over the one `pass` of `lsp_replay`. An offence may follow from an earlier one, after which the
+//! two sides no longer agree on a document or on the handshake; what is an offence, and what
+//! follows, is defined in `lsp_verdict`.
 #![tactic(auto)]
 
-mod as_json;
 mod end_of_session;
 mod laws;
 mod losses;
@@ -19,9 +18,11 @@ mod run;
 mod survey;
 mod text;
 
-pub use as_json::{run_show_all_json, run_survey_json};
 pub use end_of_session::{SessionEnd, session_end};
-pub use laws::{all_shown_is_report, one_all_shown, one_kept_text};
+pub use laws::{
+    all_shown_answers_verdict, all_shown_is_report, kept_text_at_its_end, one_all_shown,
+    one_kept_text, one_report, report_answers_verdict, report_is_of_survey,
+};
 pub use losses::Losses;
 pub use lsp_verdict::Listing;
 pub use notes::{Uris, add_uri, folded, forget, forget_uri, renews, reopens, sets_text};

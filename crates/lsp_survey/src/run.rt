@@ -1,11 +1,12 @@
-//! Reports all that is wrong with a log, or shows all its events.
-ghost use Rattle.lsp_survey.specs.AllShown.{ShowsAll};
-ghost use Rattle.lsp_survey.specs.Reported.{SurveysLog};
+//! Reports all that is wrong with a log, or shows all its events, in lines or as JSON.
+ghost use Rattle.lsp_json_run.specs.JsonRun.{run_in};
+ghost use Rattle.lsp_replay.specs.Run.{PassesOn};
+ghost use Rattle.lsp_survey.specs.SurveyRun.{report_run, show_all_run};
 ghost use Rattle.lsp_verdict.specs.Runs.{ports};
 
 use crate::survey::{Options, Survey};
 use lsp_frame::{Limits, Sink, Source};
-use lsp_replay::pass;
+use lsp_json_run::{Form, pass_in};
 use lsp_verdict::{Completeness, Lines, Listing, Outcome, RunFault};
 use std::alloc::Global;
 
@@ -27,10 +28,11 @@ pub fn run_survey<R: Source, W: Sink>(
     limits: Limits,
     completeness: Completeness,
     listing: Listing,
+    form: Form,
 ) -> Result<Outcome, RunFault>
     // The verdict is the one that `run_check` gives, or `run_check_complete`: the first No that is
     // listed, else the fault of the log, else Yes.
-    ensures surveyed { SurveysLog completeness listing limits
+    ensures passes { PassesOn (run_in form (report_run completeness listing)) limits
         (ports (R.told reader.old) (R.told reader.new) (W.told writer.old) (W.told writer.new))
         result }
 {
@@ -39,8 +41,8 @@ pub fn run_survey<R: Source, W: Sink>(
         listing,
         lines: None,
     };
-    let mut account = Survey::new(alloc, options);
-    pass(alloc, reader, writer, limits, &mut account)
+    let account = Survey::new(alloc, options);
+    pass_in(alloc, reader, writer, limits, account, form)
 }
 
 /// Reads a log to its end, and writes a line for each event that is kept, short or long, and in
@@ -59,16 +61,18 @@ pub fn run_show_all<R: Source, W: Sink>(
     writer: &mut W,
     limits: Limits,
     lines: Lines,
+    form: Form,
 ) -> Result<Outcome, RunFault>
     // The verdict is the one that `run_check` gives.
-    ensures shown { ShowsAll lines limits (ports (R.told reader.old) (R.told reader.new)
-        (W.told writer.old) (W.told writer.new)) result }
+    ensures passes { PassesOn (run_in form (show_all_run lines)) limits
+        (ports (R.told reader.old) (R.told reader.new) (W.told writer.old) (W.told writer.new))
+        result }
 {
     let options = Options {
         completeness: Completeness::Ignored,
         listing: Listing::Every,
         lines: Some(lines),
     };
-    let mut account = Survey::new(alloc, options);
-    pass(alloc, reader, writer, limits, &mut account)
+    let account = Survey::new(alloc, options);
+    pass_in(alloc, reader, writer, limits, account, form)
 }

@@ -1,7 +1,7 @@
 //! The text that is held after a message of the editor, where each event that offends is skipped.
 ghost use Rattle.std.specs.Prelude.{◌<◌};
-ghost use Rattle.lsp_replay.specs.TextAnswers.{WritesText};
-ghost use Rattle.lsp_survey.specs.KeptText.{AnswersKept};
+ghost use Rattle.lsp_replay.specs.Run.{PassesOn};
+ghost use Rattle.lsp_survey.specs.KeptText.{kept_text_run};
 ghost use Rattle.lsp_verdict.specs.Runs.{ports};
 
 use lsp_frame::{Limits, Sink, Source};
@@ -27,9 +27,9 @@ pub fn run_text_all<R: Source, W: Sink>(
     uri: &str,
 ) -> Result<Outcome, RunFault>
     requires { 0 < number }
-    ensures text { WritesText limits
+    ensures passes { PassesOn (kept_text_run number uri.now) limits
         (ports (R.told reader.old) (R.told reader.new) (W.told writer.old) (W.told writer.new))
-        (λ log. AnswersKept limits log number uri.now) result }
+        result }
 {
     let skips = true;
     let mut account = HeldText { number, uri, skips };

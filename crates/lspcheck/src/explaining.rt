@@ -1,6 +1,6 @@
 //! Which command explains a No.
 use crate::shown_name::ShownName;
-use lsp_command::{Request, Task};
+use lsp_command::{Report, Request, Task};
 use lsp_judge::Completeness;
 use lsp_types::LineEnds;
 
@@ -11,8 +11,8 @@ pub(crate) fn show_explaining<R: Eprint>(
     file: Option<&ShownName<'_>>,
 ) {
     let (all, completeness) = match request.task {
-        Task::Check(completeness) => ("", completeness),
-        Task::Survey(completeness, _) => (" --all", completeness),
+        Task::Check(completeness, Report::Offences(_), _) => (" --all", completeness),
+        Task::Check(completeness, ..) => ("", completeness),
         _ => return,
     };
     let complete = match completeness {

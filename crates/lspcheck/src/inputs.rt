@@ -92,7 +92,7 @@ fn run_line<R: Clock + Files + io::Input + Print + Eprint + AllocGlobal>(
 ) -> Ended {
     let ended = match line_name(request, input, shown) {
         Some(name) => {
-            let task = request.task.for_line(name).in_form(request.json);
+            let task = request.task.for_line(name);
             run(rt, request, task, input, terminals)
         }
         None => Ended::by(RunFault::Memory),
@@ -115,10 +115,7 @@ fn run_one<R: Clock + Files + io::Input + Print + Eprint + AllocGlobal>(
     let has_line = request.is_several();
     match shown {
         Some(shown) if has_line => run_line(rt, request, input, shown, terminals),
-        _ => {
-            let task = request.task.in_form(request.json);
-            run(rt, request, task, input, terminals)
-        }
+        _ => run(rt, request, request.task, input, terminals),
     }
 }
 

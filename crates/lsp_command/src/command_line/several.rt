@@ -5,7 +5,7 @@ ghost use Rattle.std.specs.Str.{chars};
 ghost use Rattle.lsp_command.specs.Several.{conflict_of, is_listing, is_text, quoted_name};
 ghost use Rattle.lsp_command.specs.ShownText as shown;
 
-use crate::command_line::task::{Request, Task};
+use crate::command_line::task::{Report, Request, Task};
 use crate::shown::{is_control, shown_text};
 use lsp_rpc::{Memory, push_quoted};
 use std::alloc::Global;
@@ -44,7 +44,7 @@ impl fmt::Display for Conflict {
 fn is_listing(task: Task<'_>) -> bool
     ensures { result ≡ is_listing task.entry }
 {
-    matches!(task, Task::Survey(..))
+    matches!(task, Task::Check(_, Report::Offences(_), _))
 }
 
 /// Whether the task is to write one of two texts.

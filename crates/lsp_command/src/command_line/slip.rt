@@ -46,7 +46,7 @@ pub fn uri_alone<'a>(request: &Request<'a>) -> Option<&'a str>
         return None;
     }
     match request.task {
-        Task::Text { uri, .. } | Task::TextAll { uri, .. } => Some(uri),
+        Task::Text { uri, .. } => Some(uri),
         _ => None,
     }
 }

@@ -1,10 +1,11 @@
 //! What a command line can ask for.
 ghost use Rattle.std.specs.Prelude.{◌≡◌};
-ghost use Rattle.lsp_command.specs.Several.{in_form, is_several, line_task, standard_inputs};
+ghost use Rattle.lsp_command.specs.Several.{is_several, line_task, standard_inputs};
 ghost use Rattle.lsp_command.specs.Words.{limits_by};
 
 use lsp_explain::ComparedText;
 use lsp_frame::Limits;
+use lsp_json_run::Form;
 use lsp_types::LineEnds;
 use lsp_verdict::{Completeness, Lines, Listing, Mode};
 use std::num::NonZeroU64;
@@ -13,69 +14,70 @@ use std::num::NonZeroU64;
 #[derive(Clone, Copy, Debug)]
 pub enum Task<'a> {
     /// To judge a recorded session, which must be complete or not.
-    Check(Completeness),
-    /// To judge one of several recorded sessions, which must be complete or not, and to write one
-    /// line, with this name.
-    CheckLine {
-        completeness: Completeness,
-        name: &'a str,
-    },
-    /// To list the offences of a recorded session, which must be complete or not.
-    Survey(Completeness, Listing),
+    Check(Completeness, Report<'a>, Form),
     /// To explain what is wrong with a recorded session, which must be complete or not.
-    Explain(Completeness),
-    /// To explain all that is wrong with a recorded session, which must be complete or not.
-    ExplainAll(Completeness),
-    /// The same with the notes on what breaks no rule.
-    ExplainNoted(Completeness),
+    Explain(Completeness, Explanation, Form),
     /// To write one of the two texts of a verdict that says that they differ.
     Compared(ComparedText),
     /// To list the events of a recorded session by short or long lines, and to judge it.
-    Show(Lines),
-    /// To list all events, by short or long lines, with the offences in their places.
-    ShowAll(Lines),
+    Show(Lines, Extent, Form),
     /// To write the text of the document with this URI, as it is after the editor's message of this
     /// number.
     Text {
         number: NonZeroU64,
         uri: &'a str,
-    },
-    /// To write the same where each event that offends is skipped, as if it had not been sent.
-    TextAll {
-        number: NonZeroU64,
-        uri: &'a str,
+        extent: Extent,
     },
     /// To write what the event of this number holds.
     Event {
         number: NonZeroU64,
     },
-    /// To write the normal form of a log.
-    Normal,
-    /// To write a log again in format 2.
-    Upgrade,
-    /// To write a log with its words replaced.
-    Redact,
+    /// To write a log again.
+    Rewrite(Rewrite),
     /// To read one raw stream of frames.
     Frames(Mode),
-    /// To write as JSON what another task writes: an object for each line.
-    Json(Report<'a>),
 }
 
-/// What can be written as JSON: what the task of the same name writes.
+/// How far a session is followed.
+#[derive(Clone, Copy, Debug, PartialEq, Eq)]
+pub enum Extent {
+    /// Up to the first event that offends.
+    First,
+    /// To its end: each event that offends is skipped, as if it had not been sent.
+    All,
+}
+
+/// Which report is written of a session that is judged.
 #[derive(Clone, Copy, Debug)]
 pub enum Report<'a> {
-    Check(Completeness),
-    /// The line of one of several recorded sessions, with the name of this file.
-    CheckLine {
-        completeness: Completeness,
-        file: &'a str,
-    },
-    Survey(Completeness, Listing),
-    Explain(Completeness),
-    ExplainAll(Completeness),
-    ExplainNoted(Completeness),
-    Show(Lines),
-    ShowAll(Lines),
+    /// That of the verdict.
+    Verdict,
+    /// Of one of several sessions, a line with this name.
+    Line(&'a str),
+    /// A list of its offences.
+    Offences(Listing),
+}
+
+/// What is explained of a session.
+#[derive(Clone, Copy, Debug, PartialEq, Eq)]
+pub enum Explanation {
+    /// The verdict, with the notes.
+    Verdict,
+    /// All that is wrong.
+    All,
+    /// All that is wrong, with the notes on what breaks no rule.
+    AllWithNotes,
+}
+
+/// How a log is written again.
+#[derive(Clone, Copy, Debug, PartialEq, Eq)]
+pub enum Rewrite {
+    /// In its normal form.
+    Normal,
+    /// In format 2.
+    Upgrade,
+    /// With its words replaced.
+    Redact,
 }
 
 /// What the words of a command line ask for.
@@ -128,32 +130,9 @@ impl<'a> Task<'a> {
         ensures { result ≡ line_task self.entry name.entry }
     {
         match self {
-            Task::Check(completeness) => Task::CheckLine { completeness, name },
-            task => task,
-        }
-    }
-
-    /// The task that writes JSON, where that is asked for and there is one.
-    pub fn in_form(self, json: bool) -> Task<'a>
-        ensures { result ≡ in_form json self.entry }
-    {
-        if !json {
-            return self;
-        }
-        match self {
-            Task::Check(completeness) => Task::Json(Report::Check(completeness)),
-            Task::CheckLine { completeness, name } => Task::Json(Report::CheckLine {
-                completeness,
-                file: name,
-            }),
-            Task::Survey(completeness, listing) => {
-                Task::Json(Report::Survey(completeness, listing))
+            Task::Check(completeness, _, form) => {
+                Task::Check(completeness, Report::Line(name), form)
             }
-            Task::Explain(completeness) => Task::Json(Report::Explain(completeness)),
-            Task::ExplainAll(completeness) => Task::Json(Report::ExplainAll(completeness)),
-            Task::ExplainNoted(completeness) => Task::Json(Report::ExplainNoted(completeness)),
-            Task::Show(lines) => Task::Json(Report::Show(lines)),
-            Task::ShowAll(lines) => Task::Json(Report::ShowAll(lines)),
             task => task,
         }
     }

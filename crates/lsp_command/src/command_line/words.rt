@@ -3,15 +3,17 @@ ghost use Rattle.std.specs.Prelude.{◌≡◌, IfErr, IfOk, codes, map, option_m
 ghost use Rattle.clap.specs.Words.{App, all_of, one_of, subcommand_rows_of};
 ghost use Rattle.lsp_command.specs.CommandLine.{IsCommandLine};
 ghost use Rattle.lsp_command.specs.Words.{Asks, AsksBoth, HasTask, IsFlag, NumberIn, Refuses, RequestIn};
-ghost use Rattle.lsp_command.specs.Words.{TaskIn, check_of, compared_of, completeness_of};
-ghost use Rattle.lsp_command.specs.Words.{explain_of, file_of, inputs_of, line_ends_of, lines_of};
-ghost use Rattle.lsp_command.specs.Words.{listing_of, mode_of, rows_in, show_of, text_of};
+ghost use Rattle.lsp_command.specs.Words.{TaskIn, report_of, compared_of, completeness_of};
+ghost use Rattle.lsp_command.specs.Words.{explanation_of, extent_of, file_of, form_of, inputs_of};
+ghost use Rattle.lsp_command.specs.Words.{line_ends_of, lines_of};
+ghost use Rattle.lsp_command.specs.Words.{listing_of, mode_of, rows_in};
 
 use crate::command_line::commands::command_line;
-use crate::command_line::task::{Request, Task};
+use crate::command_line::task::{Explanation, Extent, Report, Request, Rewrite, Task};
 use clap::error::ErrorKind;
 use clap::{ArgMatches, Error};
 use lsp_explain::ComparedText;
+use lsp_json_run::Form;
 use lsp_types::LineEnds;
 use lsp_verdict::{Completeness, Lines, Listing, Mode};
 use std::alloc::{AllocError, Global};
@@ -53,16 +55,6 @@ fn listing_of(all: bool, every: bool) -> Option<Listing>
     }
 }
 
-/// The verdict on a session, or a list of its offences.
-fn check_of<'a>(completeness: Completeness, listing: Option<Listing>) -> Task<'a>
-    ensures { result ≡ check_of completeness listing }
-{
-    match listing {
-        Some(listing) => Task::Survey(completeness, listing),
-        None => Task::Check(completeness),
-    }
-}
-
 /// Which of two texts that differ is written, where one is: the options for these are set or not.
 fn compared_of(by_messages: bool, in_editor: bool) -> Option<ComparedText>
     ensures { result ≡ compared_of by_messages in_editor }
@@ -76,48 +68,16 @@ fn compared_of(by_messages: bool, in_editor: bool) -> Option<ComparedText>
     }
 }
 
-/// What explains the verdict on a session, or all that is wrong with it, with the notes or without,
-/// where the options for these are set or not; or one of the two texts of the verdict.
-fn explain_of<'a>(
-    completeness: Completeness,
-    all: bool,
-    notes: bool,
-    text: Option<ComparedText>,
-) -> Task<'a>
-    ensures { result ≡ explain_of completeness all notes text }
+/// What is explained, where the options for all that is wrong and for the notes are set or not.
+fn explanation_of(all: bool, notes: bool) -> Explanation
+    ensures { result ≡ explanation_of all notes }
 {
-    if let Some(which) = text {
-        return Task::Compared(which);
-    }
     if !all {
-        return Task::Explain(completeness);
-    }
-    if notes {
-        Task::ExplainNoted(completeness)
+        Explanation::Verdict
+    } else if notes {
+        Explanation::AllWithNotes
     } else {
-        Task::ExplainAll(completeness)
-    }
-}
-
-/// The text after a message, past each event that offends where the option for that is set.
-fn text_of<'a>(number: NonZeroU64, uri: &'a str, all: bool) -> Task<'a>
-    ensures { result ≡ text_of number uri.entry all }
-{
-    if all {
-        Task::TextAll { number, uri }
-    } else {
-        Task::Text { number, uri }
-    }
-}
-
-/// The events by these lines, past each that offends where the option for that is set.
-fn show_of<'a>(lines: Lines, all: bool) -> Task<'a>
-    ensures { result ≡ show_of lines all }
-{
-    if all {
-        Task::ShowAll(lines)
-    } else {
-        Task::Show(lines)
+        Explanation::All
     }
 }
 
@@ -137,6 +97,20 @@ fn line_ends_of(set: bool) -> LineEnds
     } else {
         LineEnds::Exact
     }
+}
+
+/// How far a session is followed, where the option for all of it is set or not.
+fn extent_of(set: bool) -> Extent
+    ensures { result ≡ extent_of set }
+{
+    if set { Extent::All } else { Extent::First }
+}
+
+/// The form of what is written, where the option for JSON is set or not.
+fn form_of(set: bool) -> Form
+    ensures { result ≡ form_of set }
+{
+    if set { Form::Json } else { Form::Lines }
 }
 
 /// Whether this option is set.
@@ -162,36 +136,50 @@ fn asks_both(arguments: &ArgMatches<'_>) -> bool
     by_messages && in_editor
 }
 
+/// The report of a session: that of its verdict, or these of its offences.
+fn report_of<'a>(listing: Option<Listing>) -> Report<'a>
+    ensures { result ≡ report_of listing }
+{
+    match listing {
+        Some(listing) => Report::Offences(listing),
+        None => Report::Verdict,
+    }
+}
+
 fn check_task<'a>(arguments: &ArgMatches<'_>) -> Task<'a>
     ensures { HasTask (codes "check") (rows_in arguments.now) result }
 {
-    check_of(
-        completeness_of(is_set(arguments, "complete")),
-        listing_of(is_set(arguments, "all"), is_set(arguments, "every")),
-    )
+    let complete = is_set(arguments, "complete");
+    let all = is_set(arguments, "all");
+    let every = is_set(arguments, "every");
+    let json = is_set(arguments, "json");
+    let listing = listing_of(all, every);
+    Task::Check(completeness_of(complete), report_of(listing), form_of(json))
 }
 
 fn explain_task<'a>(arguments: &ArgMatches<'_>) -> Task<'a>
     ensures { HasTask (codes "explain") (rows_in arguments.now) result }
 {
-    explain_of(
-        completeness_of(is_set(arguments, "complete")),
-        is_set(arguments, "all"),
-        is_set(arguments, "notes"),
-        compared_of(
-            is_set(arguments, "by-messages"),
-            is_set(arguments, "in-editor"),
-        ),
-    )
+    let by_messages = is_set(arguments, "by-messages");
+    let in_editor = is_set(arguments, "in-editor");
+    if let Some(which) = compared_of(by_messages, in_editor) {
+        return Task::Compared(which);
+    }
+    let complete = is_set(arguments, "complete");
+    let all = is_set(arguments, "all");
+    let notes = is_set(arguments, "notes");
+    let json = is_set(arguments, "json");
+    let explanation = explanation_of(all, notes);
+    Task::Explain(completeness_of(complete), explanation, form_of(json))
 }
 
 fn show_task<'a>(arguments: &ArgMatches<'_>) -> Task<'a>
     ensures { HasTask (codes "show") (rows_in arguments.now) result }
 {
-    show_of(
-        lines_of(is_set(arguments, "long")),
-        is_set(arguments, "all"),
-    )
+    let long = is_set(arguments, "long");
+    let all = is_set(arguments, "all");
+    let json = is_set(arguments, "json");
+    Task::Show(lines_of(long), extent_of(all), form_of(json))
 }
 
 fn text_task<'a>(arguments: &ArgMatches<'a>) -> Option<Task<'a>>
@@ -199,7 +187,12 @@ fn text_task<'a>(arguments: &ArgMatches<'a>) -> Option<Task<'a>>
 {
     let number = number_of(arguments)?;
     let uri = arguments.get_str("uri")?;
-    Some(text_of(number, uri, is_set(arguments, "all")))
+    let all = is_set(arguments, "all");
+    Some(Task::Text {
+        number,
+        uri,
+        extent: extent_of(all),
+    })
 }
 
 fn event_task<'a>(arguments: &ArgMatches<'_>) -> Option<Task<'a>>
@@ -225,9 +218,9 @@ fn task_of<'a>(name: &str, arguments: &ArgMatches<'a>) -> Option<Task<'a>>
         "show" => Some(show_task(arguments)),
         "text" => text_task(arguments),
         "event" => event_task(arguments),
-        "normal" => Some(Task::Normal),
-        "upgrade" => Some(Task::Upgrade),
-        "redact" => Some(Task::Redact),
+        "normal" => Some(Task::Rewrite(Rewrite::Normal)),
+        "upgrade" => Some(Task::Rewrite(Rewrite::Upgrade)),
+        "redact" => Some(Task::Rewrite(Rewrite::Redact)),
         "frames" => Some(frames_task(arguments)),
         _ => None,
     }

@@ -1,4 +1,4 @@
-use Rattle.lsp_explain.proofs.Explaining.{begins_with_report}
+use Rattle.lsp_explain.proofs.Explanations.{begins_with_report}
 use Rattle.lsp_explain.proofs.laws.explanation_begins_with_report.Goals as goal
 
 pub returns : goal.returns

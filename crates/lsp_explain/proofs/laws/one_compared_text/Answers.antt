@@ -1,5 +1,6 @@
-use Rattle.lsp_explain.proofs.Comparing.{one_compared}
+use Rattle.lsp_explain.specs.Compared.{answer_after, answer_behind}
+use Rattle.lsp_replay.proofs.TextRuns.{has_one_answer}
 use Rattle.lsp_explain.proofs.laws.one_compared_text.Goals as goal
 
 pub returns : goal.returns
-returns c = one_compared
+returns c = λ which. has_one_answer (answer_after which) answer_behind

@@ -1,8 +1,11 @@
-use Rattle.lsp_explain.proofs.Explanations.{explains}
+use Rattle.lsp_explain.proofs.QuietRuns.{explain_quiet}
 use Rattle.lsp_explain.proofs.run.run_explain.Goals as goal
 
-pub returns : goal.returns
-returns g c = record {
-  explains = explains c.args.completeness c.args.limits c.pass.ensures.range _ _
-      (rw c.new-account.ensures.completeness at c.pass.ensures.passes);
+pub pass_in-requires : goal.pass_in-requires
+pass_in-requires g c = record {
+  begins = c.new-account.ensures.stands;
+  quiet = explain_quiet c.new-account.result.completeness;
 }
+
+pub returns : goal.returns
+returns g c = record { passes = rw c.new-account.ensures.completeness at c.pass_in.ensures.passes }

@@ -11,7 +11,7 @@ use Rattle.lsp_survey.proofs.end_of_session.list.Goals as goal
 pub returns-in_default : goal.returns-in_default
 returns-in_default c = λ events counted few.
     let old = map offence_view c.args.listed.now.items in
-    sym (append-nil old) ∙ ap (λ r. old ++ listed_by r c.args.by events) (sym c.in_default.is)
+    sym (append-nil old) ∙ ap (λ r. old ++ listed_by r events) (sym c.in_default.is)
 
 pub returns : goal.returns
 returns c = λ events counted few.
@@ -20,5 +20,5 @@ returns c = λ events counted few.
     ap (map offence_view) c.in_ok-push.ensures.items
     ∙ map-append offence_view c.args.listed.now.items (c.next.result ∷ [])
     ∙ ap (λ o. old ++ o ∷ []) (c.next.ensures events counted
-    ∙ ap (λ (v : Verdict). by_itself v) (no_exact events rule c.args.by few))
-    ∙ ap (λ r. old ++ listed_by r c.args.by events) (sym c.in-Some.is)
+    ∙ ap (λ (v : Verdict). by_itself v) (no_exact events rule c.in-Some.by few))
+    ∙ ap (λ r. old ++ listed_by r events) (sym c.in-Some.is)

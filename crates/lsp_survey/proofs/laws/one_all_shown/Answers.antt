@@ -1,5 +1,6 @@
-use Rattle.lsp_survey.proofs.Showing as proved
+use Rattle.lsp_survey.proofs.Showing.{shown}
+use Rattle.lsp_survey.proofs.SurveyRuns.{one_survey_output}
 use Rattle.lsp_survey.proofs.laws.one_all_shown.Goals as goal
 
 pub returns : goal.returns
-returns c = proved.one_all_shown
+returns c = λ lines. one_survey_output (shown lines)

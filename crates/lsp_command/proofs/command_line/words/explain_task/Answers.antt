@@ -1,17 +1,40 @@
-use Rattle.std.proofs.Common.{◌≡◌, ◌∙◌, ap₂, codes, subst, sym}
-use Rattle.lsp_command.specs.Words.{HasTask, compared_of, completeness_of, explain_of, rows_in}
-use Rattle.lsp_command.specs.declared.command_line.task.Task.{Task}
-use Rattle.lsp_command.proofs.Asked.{asks_explain}
+use Rattle.std.proofs.Common.{◌∙◌, refl, sym}
 use Rattle.lsp_command.proofs.command_line.words.explain_task.Goals as goal
 
+-- one of the two texts
+pub returns-in-Some : goal.returns-in-Some
+returns-in-Some c = record {
+  command = refl;
+  arguments = (
+    c.is_set-by_messages.result,
+    c.is_set-in_editor.result,
+    c.is_set-by_messages.ensures,
+    c.is_set-in_editor.ensures,
+    sym c.in-Some.is ∙ c.compared_of.ensures,
+  );
+}
+
 pub returns : goal.returns
-returns c =
-    let all = c.is_set-2.result in
-    let notes = c.is_set-3.result in
-    let is : c.explain_of.result ≡ explain_of (completeness_of c.is_set.result) all notes
-    (compared_of c.is_set-4.result c.is_set-5.result) =
-    c.explain_of.ensures
-    ∙ ap₂ (λ x y. explain_of x all notes y) c.completeness_of.ensures c.compared_of.ensures in
-    subst (λ (t : Task). HasTask (codes "explain") (rows_in c.args.arguments.now) t) (sym is)
-    (asks_explain _ _ c.is_set.ensures _ _ _ _ c.is_set-2.ensures c.is_set-3.ensures
-    c.is_set-4.ensures c.is_set-5.ensures)
+returns c = record {
+  command = refl;
+  arguments = record {
+    complete = c.is_set-complete.result;
+    no_text = (
+      c.is_set-by_messages.result,
+      c.is_set-in_editor.result,
+      c.is_set-by_messages.ensures,
+      c.is_set-in_editor.ensures,
+      sym c.in_default.is ∙ c.compared_of.ensures,
+    );
+    complete_is = c.is_set-complete.ensures;
+    completeness_is = c.completeness_of.ensures;
+    explanation_is = (
+      c.is_set-all.result,
+      c.is_set-notes.result,
+      c.is_set-all.ensures,
+      c.is_set-notes.ensures,
+      c.explanation_of-explanation.ensures,
+    );
+    form_is = (c.is_set-json.result, c.is_set-json.ensures, c.form_of.ensures);
+  };
+}
