@@ -315,8 +315,8 @@ fn note_messages(
     spellings.note_event(held, trail, seen)
 }
 
-/// Notes what the server sends, unless this event or an earlier one breaks a rule: after one that is
-/// skipped, the server may have other texts and versions. The trail is of the events before it.
+/// Notes what the server sends, unless this event or an earlier one breaks a rule: after one that
+/// is skipped, the server may have other texts and versions. The trail is of the events before it.
 fn note_served(
     edits: &mut ServerEdits,
     broken: bool,
