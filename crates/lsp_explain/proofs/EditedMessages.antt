@@ -1,70 +1,24 @@
 -- What messages have for documents, as they are read from their contents.
 use Rattle.std.specs.Borrow.{Bor}
 use Rattle.std.specs.Prelude.{if◌then◌else◌, is_some, option_and_then, option_map, option_to_list}
-use Rattle.std.specs.Prelude.{codes, map}
+use Rattle.std.specs.Prelude.{codes, drop, map, slice_get}
 use Rattle.std.proofs.Common.{◌≡◌, ℕ, Bool, true, false, List, [], ◌∷◌, ◌++◌, Option, Some, None}
 use Rattle.std.proofs.Common.{refl, sym, ap, ◌∙◌, append_assoc}
 use Rattle.std.specs.List.{cons_option, filter_map}
-use Rattle.serde_json.specs.Data.{Data, null, boolean, number, string, array, object}
-use Rattle.serde_json.specs.Find.{as_str}
-use Rattle.lsp_outline.proofs.Versioning.{text_versions}
-use Rattle.lsp_outline.specs.Versions.{versioned_at, versioned_in}
+use Rattle.serde_json.specs.Data.{Data}
 use Rattle.lsp_replay.specs.declared.heard.EventPlace.{EventPlace}
 use Rattle.lsp_rpc.specs.Ident.{id_view}
-use Rattle.lsp_rpc.specs.Message.{Message, Reply, error, notification, request, response, result}
+use Rattle.lsp_rpc.specs.Message.{Reply, response}
 use Rattle.lsp_rpc.specs.Outline.{outline}
-use Rattle.lsp_rpc.specs.Reading as rpc
-use Rattle.lsp_rpc.specs.Shape.{as_id, member, unless_null}
+use Rattle.lsp_rpc.specs.Shape.{member}
 use Rattle.lsp_rpc.specs.View.{message_view}
 use Rattle.lsp_rpc.specs.declared.message.Answer.{Answer}
 use Rattle.lsp_rpc.specs.declared.message.Answer.TheVariants as answers
 use Rattle.lsp_rpc.specs.declared.message.Id.{Id}
 use Rattle.lsp_rpc.specs.declared.message.Message.TheVariants as lents
-use Rattle.lsp_explain.specs.Naming.{is_diagnostics, params_of}
-use Rattle.lsp_explain.specs.ServerEdits.{diagnosed_as, edited_for, edited_in, edited_view}
-use Rattle.lsp_explain.specs.ServerEdits.{in_edit, in_notification, in_request, is_apply_edit}
+use Rattle.lsp_explain.specs.ServerEdits.{edited_for, edited_in, edited_view, in_edit}
+use Rattle.lsp_explain.specs.ServerEdits.{in_request, is_apply_edit}
 use Rattle.lsp_explain.specs.declared.notes.edited.Edited as seen
-use Rattle.lsp_explain.proofs.NamedDocuments.{made_with}
-
--- ---- the version in diagnostics
-
--- null has no members
-null_versions : (own : Option Data)
-    → option_and_then versioned_at (option_and_then unless_null own)
-    ≡ option_and_then versioned_at own
-null_versions None = refl
-null_versions (Some null) = refl
-null_versions (Some (boolean b)) = refl
-null_versions (Some (number n)) = refl
-null_versions (Some (string s)) = refl
-null_versions (Some (array ds)) = refl
-null_versions (Some (object ms)) = refl
-
--- **a content names the version that its notification names**
-pub versions_so : (bytes : List ℕ) (m : Message) (method : List ℕ) → rpc.Reads bytes m
-    → outline m ≡ notification method None
-    → option_and_then versioned_at (params_of m) ≡ versioned_in bytes
-versions_so bytes (notification name params) method reads same =
-    let parts = rpc.parts_of reads.0 in
-    ap (option_and_then versioned_at)
-    (made_with (is_some parts.method) (option_and_then as_str parts.method)
-    (option_and_then as_id parts.id) (option_and_then unless_null parts.params)
-    (rpc.reply_in parts.result parts.error) (notification name params) reads.2.made refl)
-    ∙ null_versions parts.params
-    ∙ text_versions bytes reads.0 reads.1.0 reads.1.1
-versions_so bytes (response own (result d)) method reads same = absurd (cc same)
-versions_so bytes (response own (error code)) method reads same = absurd (cc same)
-versions_so bytes (request own name params) method reads same = absurd (cc same)
-
--- what a notification has
-pub notified_so : (p : EventPlace) (bytes : List ℕ) (m : Message) (method : List ℕ)
-    → rpc.Reads bytes m → outline m ≡ notification method None
-    → in_notification p method (params_of m)
-    ≡ (if is_diagnostics method
-    then option_to_list (option_map (diagnosed_as p) (versioned_in bytes)) else [])
-notified_so p bytes m method reads same =
-    ap (λ o. if is_diagnostics method
-    then option_to_list (option_map (diagnosed_as p) o) else []) (versions_so bytes m method reads same)
 
 -- ---- requests
 
@@ -111,3 +65,16 @@ edited_more uris uri since d found new whole more is =
         ≡ option_to_list o ++ edited_in uris since d
     split None = refl
     split (Some e) = refl
+
+-- the next of the documents
+pub next_uri : (uris rest : List (List ℕ)) (uri : List ℕ) → Some uri ≡ slice_get uris 0
+    → rest ≡ drop 1 uris → uris ≡ uri ∷ rest
+next_uri [] rest uri has is = absurd (cc has)
+next_uri (u ∷ uris) rest uri has is =
+    let same : uri ≡ u = cc has in
+    λ i. sym same i ∷ sym is i
+
+-- there is none
+pub none_left : (uris : List (List ℕ)) → None ≡ slice_get uris 0 → uris ≡ []
+none_left [] has = refl
+none_left (u ∷ uris) has = absurd (cc has)

@@ -1,15 +1,16 @@
 -- What the server's edits are in the texts of a document, as the code has it.
-use Rattle.std.specs.Prelude.{◌||◌, MatchOption, is_none, is_some, nat_lt, not}
+use Rattle.std.specs.Prelude.{◌||◌, MatchOption, get_or, int_lt, is_none, is_some, nat_lt, not}
 use Rattle.std.specs.Borrow.{Bor}
 use Rattle.std.specs.Prelude.{if◌then◌else◌, Result, Ok, Err, option_map, option_to_list, ℤ}
 use Rattle.std.specs.List.{cons_option, find, insert, prefix_len}
 use Rattle.std.specs.Option.{option_or}
 use Rattle.std.specs.Str.{chars}
 use Rattle.std.proofs.Common.{◌≡◌, ◌<◌, ◌+◌, ℕ, Bool, true, false, List, [], ◌∷◌, ◌++◌, Option, Some}
-use Rattle.std.proofs.Common.{None, refl, sym, ap, ◌∙◌, append-nil, arith}
+use Rattle.std.proofs.Common.{None, refl, sym, ap, ◌∙◌, append-nil, append_assoc, arith}
 use Rattle.std.proofs.Common.{cond, drop, length, suc, take}
 use Rattle.std.proofs.lemmas.Bool.Decides.{nat_tests}
-use Rattle.std.proofs.lemmas.List.{drop-map, map-append, take-append-drop, take-map}
+use Rattle.std.proofs.lemmas.List.{drop-map, drop_more, map-append, take-append-drop, take-map}
+use Rattle.std.proofs.lemmas.List.Elements.{filter-append, filter_map-append}
 use Rattle.serde_json.specs.View.{items_view}
 use Rattle.serde_json.specs.declared.value.Value.{Value}
 use Rattle.lsp_docs.specs.Calls.{Text}
@@ -190,27 +191,47 @@ text_more texts t u o is at =
 -- whether one is known, as it is lent
 lent_text : (lent : Option (Bor Counted)) (o : Option Text)
     → option_map (λ (s : Bor Counted). s.now.content) lent ≡ o
-    → is_some o ≡ not (is_none lent)
+    → is_some o ≡ is_some lent
 lent_text None o is = sym (ap is_some is)
 lent_text (Some s) o is = sym (ap is_some is)
 
 module _ (kept : List Version) (v : Option Version) (number : ℤ) (lent : Option (Bor Counted))
     (at : option_map (λ (s : Bor Counted). s.now.content) lent ≡ text_at number kept v)
-    (none : Bool) (none_is : none ≡ is_none lent) where
+    (none : Bool) (some_is : is_some lent ≡ not none) where
   abbrev all_texts : List Text
   all_texts = texts_at kept v (not_below number (numbers_of (kept ++ option_to_list v)))
 
   pub unknown_texts : none ≡ true → None ≡ texts_in kept v number
   unknown_texts is =
       sym (ap (λ (b : Bool). if b then Some all_texts else None)
-      (lent_text lent (text_at number kept v) at ∙ ap not (sym none_is ∙ is)))
+      (lent_text lent (text_at number kept v) at ∙ some_is ∙ ap not is))
 
   pub known_texts : none ≡ false → (texts : List Text) → texts ≡ all_texts
       → Some texts ≡ texts_in kept v number
   known_texts is texts are =
       ap Some are
       ∙ sym (ap (λ (b : Bool). if b then Some all_texts else None)
-      (lent_text lent (text_at number kept v) at ∙ ap not (sym none_is ∙ is)))
+      (lent_text lent (text_at number kept v) at ∙ some_is ∙ ap not is))
+
+-- the text at one more number
+pub texts_next : (kept : List Version) (v : Option Version) (version : ℤ) (numbers : List ℤ)
+    (i : ℕ) (n : ℤ) (whole done new : List Text) → i < length numbers → n ≡ get_or numbers i n
+    → whole ≡ done ++ texts_at kept v (not_below version (drop i numbers))
+    → new ≡ done ++ texts_at kept v (not_below version (n ∷ []))
+    → whole ≡ new ++ texts_at kept v (not_below version (drop (i + 1) numbers))
+texts_next kept v version numbers i n whole done new lt is so more =
+    let rest = drop (i + 1) numbers in
+    let of = λ ns. texts_at kept v (not_below version ns) in
+    let split : of (n ∷ rest) ≡ of (n ∷ []) ++ of rest =
+    ap (texts_at kept v) (filter-append (λ (m : ℤ). not (int_lt m version)) (n ∷ []) rest)
+    ∙ filter_map-append (λ (m : ℤ). text_at m kept v) (not_below version (n ∷ []))
+    (not_below version rest) in
+    so
+    ∙ ap (λ ns. done ++ of ns)
+    (drop_more numbers i n lt ∙ ap (λ m. m ∷ rest) (sym is))
+    ∙ ap (λ l. done ++ l) split
+    ∙ sym (append_assoc done (of (n ∷ [])) (of rest))
+    ∙ ap (λ l. l ++ of rest) (sym more)
 
 -- ---- a range
 
@@ -221,12 +242,12 @@ first_end f p q is = sym (ap (λ (b : Bool). if b then Some p else find f (q ∷
 
 pub second_end : (f : Position → Bool) (p q : Position) → f p ≡ false → f q ≡ true
     → Some q ≡ find f (p ∷ q ∷ [])
-second_end f p q no is =
-    sym (ap (λ (b : Bool). if b then Some p else find f (q ∷ [])) no
+second_end f p q first is =
+    sym (ap (λ (b : Bool). if b then Some p else find f (q ∷ [])) first
     ∙ ap (λ (b : Bool). if b then Some q else None) is)
 
 pub no_end : (f : Position → Bool) (p q : Position) → f p ≡ false → f q ≡ false
     → None ≡ find f (p ∷ q ∷ [])
-no_end f p q no also =
-    sym (ap (λ (b : Bool). if b then Some p else find f (q ∷ [])) no
+no_end f p q first also =
+    sym (ap (λ (b : Bool). if b then Some p else find f (q ∷ [])) first
     ∙ ap (λ (b : Bool). if b then Some q else None) also)

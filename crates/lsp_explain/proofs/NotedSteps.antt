@@ -43,6 +43,7 @@ use Rattle.lsp_explain.specs.DocumentNotes.{DocumentNote, document_line, first_n
 use Rattle.lsp_explain.specs.DocumentNotes.{note_view, notes_view}
 use Rattle.lsp_explain.specs.ExplainRuns.{all_run}
 use Rattle.lsp_explain.specs.History.{last_ones}
+use Rattle.lsp_explain.specs.MessageNotes.{AreNoted, served_with}
 use Rattle.lsp_explain.specs.Misfits.{Found, event_found, found_refuted, kept_found}
 use Rattle.lsp_explain.specs.Notes.{exit_notes, name_notes, old_name_notes}
 use Rattle.lsp_explain.specs.Openings.{on_view}
@@ -50,6 +51,7 @@ use Rattle.lsp_explain.specs.Refusals.{AreRefusals, event_request, most_requests
 use Rattle.lsp_explain.specs.Refusals.{refusal_by}
 use Rattle.lsp_explain.specs.ServerEdits.{AreServerEdits}
 use Rattle.lsp_explain.specs.Spellings.{AreSpellings, spelling_at, spelling_by}
+use Rattle.lsp_explain.specs.declared.notes.messages.MessageNotes.{MessageNotes}
 use Rattle.lsp_explain.specs.declared.notes.refusals.Refusals.{Refusals}
 use Rattle.lsp_explain.specs.declared.notes.server_edits.ServerEdits.{ServerEdits}
 use Rattle.lsp_explain.specs.declared.notes.spellings.Spellings.{Spellings}
@@ -223,15 +225,27 @@ module _ (terms : Terms) (before : List Heard) (h : Heard) where
       → sound_events terms before ≡ heard_events before
   sound_yet none = ap heard_events (sound_all terms [] before none)
 
-  pub sound_more : (s : ServerEdits) → is_broken terms before ≡ false
+  -- one that is kept is looked at where no earlier one broke a rule
+  sound_is : (broken : Bool) → broken ≡ is_broken terms before → rule_of terms before h ≡ None
+      → served_with broken (sound_events terms before) (heard_events (before ++ h ∷ []))
+      ≡ sound_events terms (before ++ h ∷ [])
+  sound_is true is kept =
+      sym (ap heard_events (sound-push terms [] before h
+      ∙ ap (λ b. sound_from terms [] before ++ next_of (b || is_some (rule_of terms before h)) h)
+      (sym is)
+      ∙ append-nil (sound_from terms [] before)))
+  sound_is false is kept =
+      sym (ap heard_events (sound-push terms [] before h
+      ∙ (λ i. sound_all terms [] before (sym is) i
+      ++ next_of ((sym is) i || is_some (kept i)) h)))
+
+  pub sound_next : (m : MessageNotes) (broken : Bool) → broken ≡ is_broken terms before
       → rule_of terms before h ≡ None
-      → AreServerEdits terms s (heard_events (before ++ h ∷ []))
-      → AreServerEdits terms s (sound_events terms (before ++ h ∷ []))
-  sound_more s none kept are =
-      subst (λ hs. AreServerEdits terms s (heard_events hs))
-      (sym (sound-push terms [] before h
-      ∙ (λ i. sound_all terms [] before none i
-      ++ next_of (none i || is_some (kept i)) h))) are
+      → AreNoted terms m (heard_events (before ++ h ∷ []))
+      (served_with broken (sound_events terms before) (heard_events (before ++ h ∷ [])))
+      → AreNoted terms m (heard_events (before ++ h ∷ [])) (sound_events terms (before ++ h ∷ []))
+  sound_next m broken is kept are =
+      subst (AreNoted terms m (heard_events (before ++ h ∷ []))) (sound_is broken is kept) are
 
 -- ---- a `shutdown` that is skipped
 

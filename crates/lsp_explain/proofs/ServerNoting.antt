@@ -59,15 +59,15 @@ use Rattle.lsp_explain.specs.History.{last_ones, last_that, on_document, with_ro
 use Rattle.lsp_explain.specs.LateEdits.{HoldsLate, LateAnswer, is_since, late_view, lates_view}
 use Rattle.lsp_explain.specs.LateEdits.{most_late, words_if_late, words_since}
 use Rattle.lsp_explain.specs.Marking.{last_setter, recent, steps}
-use Rattle.lsp_explain.specs.Naming.{is_diagnostics, params_of}
+use Rattle.lsp_explain.specs.Naming.{diagnosed_in, is_diagnostics, params_of}
 use Rattle.lsp_explain.specs.Refusals.{is_request}
 use Rattle.lsp_explain.specs.ServerEdits.{AreServerEdits, Edited, NotesBy, all_noted, calls_with}
 use Rattle.lsp_explain.specs.ServerEdits.{edited_at, edited_at_place, edited_by_side}
-use Rattle.lsp_explain.specs.ServerEdits.{diagnosed_as, edited_in_message, flat_from, flat_of}
+use Rattle.lsp_explain.specs.ServerEdits.{edited_in_message, flat_from, flat_of, in_diagnostics}
 use Rattle.lsp_explain.specs.ServerEdits.{last_answers, late_answer_at}
 use Rattle.lsp_explain.specs.ServerEdits.{late_at, late_by, noted_at, outside_note, overlap_note}
 use Rattle.lsp_explain.specs.ServerEdits.{edited_view, encoding_with, late_in, note_on}
-use Rattle.lsp_explain.specs.ServerEdits.{answered, edit_in, in_answer, in_notification}
+use Rattle.lsp_explain.specs.ServerEdits.{answered, edit_in, in_answer}
 use Rattle.lsp_explain.specs.ServerEdits.{in_request, in_whole}
 use Rattle.lsp_explain.specs.ServerEdits.{Sight, outside_in, overlap_in, sight, sight_of}
 use Rattle.lsp_explain.specs.ServerEdits.{texts_of, unsent_note, uris_with, with_notes}
@@ -388,9 +388,8 @@ notified_has : (terms : Terms) (before : List Event) (uris : List (List ℕ)) (p
     → edited_by_side terms before uris p side (notification method params) ≡ []
 notified_has terms before uris p Editor method params none = refl
 notified_has terms before uris p Server method params none =
-    ap (λ (b : Bool). if b
-    then option_to_list (option_map (diagnosed_as p) (option_and_then versioned_at params)) else [])
-    none
+    ap (λ (b : Bool). in_diagnostics p
+    (if b then option_and_then versioned_at params else None)) none
 
 -- it asks for no edits, and has none
 pub record IsQuiet (terms : Terms) (events : List Event) (e : Event) : Type 0 where
@@ -636,11 +635,9 @@ edit_of_request (response own reply) is = absurd (cc is)
 -- a notification
 pub has_notification : (terms : Terms) (before : List Event) (uris : List (List ℕ))
     (p : EventPlace) (m : Message) (method : List ℕ) → outline m ≡ notification method None
-    → edited_in_message terms before uris p m ≡ in_notification p method (params_of m)
+    → in_diagnostics p (diagnosed_in Server m) ≡ edited_in_message terms before uris p m
 has_notification terms before uris p (request own name params) method same = absurd (cc same)
-has_notification terms before uris p (notification name params) method same =
-    let is : name ≡ method = cc same in
-    ap (λ n. in_notification p n params) is
+has_notification terms before uris p (notification name params) method same = refl
 has_notification terms before uris p (response own (result d)) method same = absurd (cc same)
 has_notification terms before uris p (response own (error code)) method same = absurd (cc same)
 

@@ -25,15 +25,13 @@ use Rattle.lsp_explain.specs.Asking.{numbered, same_phase}
 use Rattle.lsp_explain.specs.Behind.{AreBehind, is_on_behind}
 use Rattle.lsp_explain.specs.DocumentNotes.{DocumentNote, document_line}
 use Rattle.lsp_explain.specs.ExplainRuns.{AllStands, all_run}
+use Rattle.lsp_explain.specs.MessageNotes.{AreNoted}
 use Rattle.lsp_explain.specs.Misfits.{AreMisfits, Found, event_found, past_ends, range_lengths}
 use Rattle.lsp_explain.specs.Notes.{Noticed, count_line, exit_notes, misuse_line, name_notes}
 use Rattle.lsp_explain.specs.Notes.{name_of, noticed, notes_by, old_name_notes, uncompared}
 use Rattle.lsp_explain.specs.Notes.{with_exit, with_server}
-use Rattle.lsp_explain.specs.Refusals.{AreRefusals}
 use Rattle.lsp_explain.specs.Renames.{renamed}
 use Rattle.lsp_explain.specs.SessionNotes.{abrupt_exit, misuses}
-use Rattle.lsp_explain.specs.ServerEdits.{AreServerEdits}
-use Rattle.lsp_explain.specs.Spellings.{AreSpellings}
 use Rattle.lsp_explain.specs.declared.notes.along.NoteCounts.{NoteCounts}
 use Rattle.lsp_explain.specs.declared.notes.along.NotesAlong.{NotesAlong}
 use Rattle.lsp_explain.specs.declared.notes.server_edits.ServerCounts.{ServerCounts}
@@ -210,9 +208,7 @@ told_view t =
 -- **it is what these events leave of it**, where the notes on those were told
 pub record AreAlong (terms : Terms) (n : NotesAlong) (told heard : List Heard) : Type 0 where
   pub misfits : AreMisfits n.misfits (found_along terms heard)
-  pub refusals : AreRefusals terms n.refusals (heard_events heard)
-  pub spellings : AreSpellings terms n.spellings (heard_events heard)
-  pub server : AreServerEdits terms n.server_edits (sound_events terms heard)
+  pub messages : AreNoted terms n.messages (heard_events heard) (sound_events terms heard)
   pub broken : n.broken ≡ is_broken terms heard
   pub behind : AreBehind terms n.behind heard
   pub refused : n.shutdown_refused ≡ is_shutdown_refused terms heard

@@ -19,6 +19,7 @@ pub mod AsciiLines
 pub mod Trails
 pub mod Compared
 pub mod DocumentNotes
+pub mod MessageNotes
 pub mod Misfits
 pub mod Refusals
 pub mod Spellings

@@ -9,7 +9,7 @@ use Rattle.lsp_docs.specs.Calls.{Call, changes}
 use Rattle.lsp_docs.specs.Documents.{Held, Terms, documents}
 use Rattle.lsp_docs.specs.State.{Stands}
 use Rattle.lsp_facts.specs.Fact.{Fact, position_words}
-use Rattle.lsp_outline.specs.Versions.{Versioned, versioned_at}
+use Rattle.lsp_outline.specs.Versions.{Versioned}
 use Rattle.lsp_replay.specs.Lines.{place_of}
 use Rattle.lsp_replay.specs.declared.heard.EventPlace.{EventPlace}
 use Rattle.lsp_rpc.specs.Ident.{Ident}
@@ -34,7 +34,7 @@ use Rattle.lsp_explain.specs.History.{last_ones, on_document}
 use Rattle.lsp_explain.specs.LateEdits.{HoldsLate, LateAnswer, if_late, lates_view, most_late}
 use Rattle.lsp_explain.specs.LateEdits.{words_since}
 use Rattle.lsp_explain.specs.Marking.{recent, steps}
-use Rattle.lsp_explain.specs.Naming.{is_diagnostics}
+use Rattle.lsp_explain.specs.Naming.{diagnosed_in}
 use Rattle.lsp_explain.specs.TextEdits.{DocumentEdits, edits_for, text_edits_at}
 use Rattle.lsp_explain.specs.TextsSince.{first_outside, overlap_each, texts_since}
 use Rattle.lsp_explain.specs.Trails.{IsTrail}
@@ -110,14 +110,12 @@ in_request uris p method params =
     if is_apply_edit method then in_edit uris p (option_and_then (member (codes "edit")) params)
     else []
 
--- diagnostics have a version
-abbrev pub diagnosed_as : EventPlace → Versioned → Edited
-diagnosed_as p v = edited v.uri p (Some v.number) None
+-- diagnostics may have a version
+abbrev pub diagnosed_as : EventPlace → Versioned → Option Edited
+diagnosed_as p v = option_map (λ n. edited v.uri p (Some n) None) v.number
 
-abbrev pub in_notification : EventPlace → List ℕ → Option Data → List Edited
-in_notification p method params =
-    if is_diagnostics method
-    then option_to_list (option_map (diagnosed_as p) (option_and_then versioned_at params)) else []
+abbrev pub in_diagnostics : EventPlace → Option Versioned → List Edited
+in_diagnostics p named = option_to_list (option_and_then (diagnosed_as p) named)
 
 -- ---- which messages
 
@@ -134,7 +132,8 @@ answered terms before id = option_and_then (answered_request terms before) id
 abbrev pub edited_in_message : Terms → List Event → List (List ℕ) → EventPlace → Message
     → List Edited
 edited_in_message terms before uris p (request id method params) = in_request uris p method params
-edited_in_message terms before uris p (notification method params) = in_notification p method params
+edited_in_message terms before uris p (notification method params) =
+    in_diagnostics p (diagnosed_in Server (notification method params))
 edited_in_message terms before uris p (response id reply) =
     in_answer uris (answered terms before id) reply
 

@@ -1,5 +1,5 @@
-//! Which version of which document the params of a content name, without building what else they
-//! hold.
+//! Which document the params of a content name, and which version of it, without building what else
+//! they hold.
 ghost use Rattle.std.specs.Prelude.{◌≡◌, IfSome, IfOk, None, option_map, string_bytes};
 ghost use Rattle.serde_json.specs.Data.{object};
 ghost use Rattle.serde_json.specs.Errors.{IsMemory};
@@ -16,11 +16,11 @@ use lsp_rpc::Memory;
 use serde_json::{Error, Value};
 use std::alloc::Global;
 
-/// A version of a document.
+/// A document, and the version of it, where one is named.
 #[derive(Drop)]
 pub struct DocumentVersion {
     pub uri: String,
-    pub version: i32,
+    pub version: Option<i32>,
 }
 
 /// The members of params that name a document and its version. A version that is null is none.
@@ -88,9 +88,9 @@ impl Gathered for MessageParts {
     }
 }
 
-/// The document and the version of it that a content names in its params: their string `uri` and
-/// their integer `version` (LSP 3.17, PublishDiagnosticsParams). `None` where they do not have
-/// both. Whether the content is such a message is not looked at.
+/// The document that a content names in its params, and the version of it: their string `uri`, and
+/// their integer `version` if they have one (LSP 3.17, PublishDiagnosticsParams). `None` where
+/// there is no such string. Whether the content is such a message is not looked at.
 ///
 /// # Errors
 /// `Memory` where memory was refused.
@@ -126,7 +126,7 @@ fn version_of_params(params: VersionParts) -> Option<DocumentVersion>
 {
     Some(DocumentVersion {
         uri: params.uri?,
-        version: params.version?,
+        version: params.version,
     })
 }
 
@@ -172,9 +172,7 @@ fn version_in_params(alloc: Global, params: &Value) -> Result<Option<DocumentVer
     let Some(uri) = uri_in(params) else {
         return Ok(None);
     };
-    let Some(version) = number_in(params) else {
-        return Ok(None);
-    };
+    let version = number_in(params);
     let uri = String::from_str(alloc, uri)?;
     Ok(Some(DocumentVersion { uri, version }))
 }

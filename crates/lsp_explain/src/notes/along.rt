@@ -19,17 +19,15 @@ ghost use Rattle.lsp_explain.specs.AllNotes.{found_more, is_broken, kinds, notic
 ghost use Rattle.lsp_explain.specs.AllNotes.{notes_at, refused_shutdown, sound_events, told_view};
 ghost use Rattle.lsp_explain.specs.Behind.{AreBehind};
 ghost use Rattle.lsp_explain.specs.DocumentNotes.{document_line, notes_view};
+ghost use Rattle.lsp_explain.specs.MessageNotes.{AreNoted};
 ghost use Rattle.lsp_explain.specs.Misfits.{AreMisfits, Found};
-ghost use Rattle.lsp_explain.specs.Refusals.{AreRefusals};
-ghost use Rattle.lsp_explain.specs.ServerEdits.{AreServerEdits};
-ghost use Rattle.lsp_explain.specs.Spellings.{AreSpellings};
 ghost use Rattle.lsp_explain.specs.Trails.{IsTrail, StandsAfter, terms_in};
 
 use crate::notes::behind::Behind;
 use crate::notes::document_notes::{beyond, push_beyond};
 use crate::notes::{
-    ABRUPT_EXIT, Misfits, Refusals, ServerCounts, ServerEdits, Spellings, name_in, notes_of,
-    push_count, push_misuses, push_name, push_renamed, push_uncompared,
+    ABRUPT_EXIT, MessageNotes, Misfits, ServerCounts, name_in, notes_of, push_count, push_misuses,
+    push_name, push_renamed, push_uncompared,
 };
 use crate::trace::push_earlier;
 use crate::trail::{Past, Trail};
@@ -62,10 +60,7 @@ pub(crate) struct NoteCounts {
 #[derive(Drop)]
 pub(crate) struct NotesAlong {
     misfits: Misfits,
-    refusals: Refusals,
-    spellings: Spellings,
-    /// What the server sent before the first event that breaks a rule.
-    server_edits: ServerEdits,
+    messages: MessageNotes,
     /// Whether an event broke a rule.
     broken: bool,
     behind: Behind,
@@ -81,9 +76,7 @@ impl NotesAlong {
     {
         NotesAlong {
             misfits: Misfits::new(alloc),
-            refusals: Refusals::new(alloc),
-            spellings: Spellings::new(alloc),
-            server_edits: ServerEdits::new(alloc),
+            messages: MessageNotes::new(alloc),
             broken: false,
             behind: Behind::new(alloc),
             shutdown_refused: false,
@@ -117,8 +110,7 @@ impl NotesAlong {
             → IsSeen held.now.session held.now.docs held.now.counts seen.now terms before h
             → AreAlong terms self.new before (before ++ h ∷ [])) }
     {
-        note_messages(&mut self.refusals, &mut self.spellings, held, trail, seen)?;
-        note_served(&mut self.server_edits, self.broken, held, trail, seen)?;
+        note_kept(&mut self.messages, held, trail, seen, self.broken)?;
         note_changes(&mut self.misfits, &self.behind, held, seen)?;
         self.broken |= offends(seen);
         self.shutdown_refused |= refuses_shutdown(held, seen);
@@ -171,9 +163,7 @@ impl NotesAlong {
             past,
             self.exit(past),
             &self.misfits,
-            &self.refusals,
-            &self.spellings,
-            &self.server_edits,
+            &self.messages,
             verdict,
         )?;
         push_facts(lines, &last)?;
@@ -200,9 +190,10 @@ impl NotesAlong {
         push_renamed(notes, renamed)?;
         push_beyond(notes, &self.misfits.past_ends, told.past_ends)?;
         push_beyond(notes, &self.misfits.range_lengths, told.range_lengths)?;
-        push_beyond(notes, &self.refusals.refused, told.refused)?;
-        push_beyond(notes, &self.spellings.named, told.spelled)?;
-        self.server_edits.push_beyond(notes, told.server)
+        let messages = &self.messages;
+        push_beyond(notes, &messages.refusals.refused, told.refused)?;
+        push_beyond(notes, &messages.spellings.named, told.spelled)?;
+        messages.server_edits.push_beyond(notes, told.server)
     }
 
     /// How many notes of each kind there are.
@@ -219,9 +210,9 @@ impl NotesAlong {
             renamed: said.renames.renamed().is_some(),
             past_ends: self.misfits.past_ends.len(),
             range_lengths: self.misfits.range_lengths.len(),
-            refused: self.refusals.refused.len(),
-            spelled: self.spellings.named.len(),
-            server: self.server_edits.counts(),
+            refused: self.messages.refusals.refused.len(),
+            spelled: self.messages.spellings.named.len(),
+            server: self.messages.server_edits.counts(),
         }
     }
 
@@ -289,54 +280,28 @@ fn is_shutdown(act: &Act) -> bool
     matches!(act, Act::Shutdown)
 }
 
-/// Notes a message that is kept. The trail is of the events before it.
-fn note_messages(
-    refusals: &mut Refusals,
-    spellings: &mut Spellings,
+/// Notes a message that is kept. The trail is of the events before it. Where an earlier event broke
+/// a rule, what the server sends is left out: after one that is skipped, it may have other texts and
+/// versions.
+fn note_kept(
+    messages: &mut MessageNotes,
     held: &Events<Lined>,
     trail: &Trail,
     seen: &Seen<'_>,
-) -> Result<()>
-    ensures refused { OnOk result ((terms : Terms) (before : List Heard) (h : Heard)
-        → IsTrail terms trail.now (heard_events before)
-        → AreRefusals terms refusals.old (heard_events before)
-        → IsSeen held.now.session held.now.docs held.now.counts seen.now terms before h
-        → AreRefusals terms refusals.new (heard_events (before ++ h ∷ []))) }
-    ensures spelled { OnOk result ((terms : Terms) (before : List Heard) (h : Heard)
-        → IsTrail terms trail.now (heard_events before)
-        → AreSpellings terms spellings.old (heard_events before)
-        → IsSeen held.now.session held.now.docs held.now.counts seen.now terms before h
-        → AreSpellings terms spellings.new (heard_events (before ++ h ∷ []))) }
-{
-    let Fate::Kept(_) = seen.fate else {
-        return Ok(());
-    };
-    refusals.note_event(held, trail, seen)?;
-    spellings.note_event(held, trail, seen)
-}
-
-/// Notes what the server sends, unless this event or an earlier one breaks a rule: after one that
-/// is skipped, the server may have other texts and versions. The trail is of the events before it.
-fn note_served(
-    edits: &mut ServerEdits,
     broken: bool,
-    held: &Events<Lined>,
-    trail: &Trail,
-    seen: &Seen<'_>,
 ) -> Result<()>
     ensures { OnOk result ((terms : Terms) (before : List Heard) (h : Heard)
-        → IsTrail terms trail.now (heard_events before) → broken ≡ is_broken terms before
-        → AreServerEdits terms edits.old (sound_events terms before)
+        → IsTrail terms trail.now (heard_events before)
+        → AreNoted terms messages.old (heard_events before) (sound_events terms before)
+        → broken ≡ is_broken terms before
         → IsSeen held.now.session held.now.docs held.now.counts seen.now terms before h
-        → AreServerEdits terms edits.new (sound_events terms (before ++ h ∷ []))) }
+        → AreNoted terms messages.new (heard_events (before ++ h ∷ []))
+        (sound_events terms (before ++ h ∷ []))) }
 {
     let Fate::Kept(_) = seen.fate else {
         return Ok(());
     };
-    if broken {
-        return Ok(());
-    }
-    edits.note_event(held, trail, seen)
+    messages.note_event(held, trail, seen, broken)
 }
 
 /// Notes what the changes of an event find that can be made, unless the document was behind.

@@ -1,31 +1,31 @@
 //! What messages of the server have for documents: edits, and the versions that they are for.
 ghost use Rattle.std.specs.Prelude.{◌≡◌, ◌++◌, ◌∷◌, [], None, Some, List, IfOk, OnOk, true};
-ghost use Rattle.std.specs.Prelude.{if◌then◌else◌, map, option_map, option_to_list};
+ghost use Rattle.std.specs.Prelude.{map, option_map, option_to_list};
 ghost use Rattle.lsp_docs.specs.Calls.{Call as SpecCall};
 ghost use Rattle.lsp_docs.specs.Documents.{Terms};
 ghost use Rattle.lsp_docs.specs.State.{Stands};
 ghost use Rattle.lsp_explain.specs.EditRequests.{last_requests, request_view, requests_view};
-ghost use Rattle.lsp_explain.specs.Naming.{is_diagnostics, params_of};
+ghost use Rattle.lsp_explain.specs.Naming.{diagnosed_in, params_of};
 ghost use Rattle.lsp_explain.specs.Refusals.{is_request};
 ghost use Rattle.lsp_explain.specs.ServerEdits as spec;
 ghost use Rattle.lsp_explain.specs.ServerEdits.{IsNow, edited_view, uris_with};
 ghost use Rattle.lsp_explain.specs.TextEdits.{text_edits_at};
 ghost use Rattle.lsp_explain.specs.Trails.{IsTrail};
-ghost use Rattle.lsp_outline.specs.Versions.{version_view, versioned_in};
+ghost use Rattle.lsp_outline.specs.Versions.{version_view};
 ghost use Rattle.lsp_rpc.specs.Ident.{id_view};
 ghost use Rattle.lsp_rpc.specs.Message.{Message as AMessage};
 ghost use Rattle.lsp_rpc.specs.Outline.{outline};
 ghost use Rattle.lsp_rpc.specs.Reading.{Reads};
 ghost use Rattle.lsp_rpc.specs.View.{message_view};
+ghost use Rattle.lsp_types.specs.declared.side.Side.TheVariants.{Server};
 ghost use Rattle.lsp_verdict.specs.Event.{Event};
 ghost use Rattle.serde_json.specs.View.{view};
 
-use crate::naming::is_diagnostics;
 use crate::notes::edit_requests::{EditRequest, edit_request_at};
 use crate::notes::text_edits::{DocumentEdits, edits_for, text_edits_of};
 use crate::trail::Trail;
 use lsp_docs::Docs;
-use lsp_outline::{DocumentVersion, version_of};
+use lsp_outline::DocumentVersion;
 use lsp_replay::EventPlace;
 use lsp_rpc::{Answer, Id, Memory, Message, Result, RpcFault, Side, read};
 use lsp_text::Lined;
@@ -59,7 +59,7 @@ pub(crate) struct Now<'a> {
 }
 
 /// What a message of the server has for documents, read from this content. These are the last
-/// requests that are answered by edits.
+/// requests that are answered by edits, and this is what its diagnostics name.
 ///
 /// # Errors
 /// `Memory` where memory was refused.
@@ -68,19 +68,19 @@ pub(crate) fn edited_by(
     asked: &VecDeque<EditRequest>,
     message: &Message,
     content: &[u8],
+    diagnosed: &Option<DocumentVersion>,
 ) -> Result<Vec<Edited>>
     ensures { IfOk result (λ edited. (terms : Terms) (before : List Event) (event : Event)
         (m : AMessage) → IsNow terms before event now.entry
         → requests_view asked.now.items ≡ last_requests terms before
         → Reads content.now m → outline m ≡ outline (message_view message.now)
+        → option_map version_view diagnosed.now ≡ diagnosed_in Server m
         → map edited_view edited.items ≡ spec.edited_in_message terms before
         (uris_with terms before event) now.entry.place m) }
 {
     match message {
         Message::Request { method, .. } => in_request(now, method.as_str(), content),
-        Message::Notification { method, .. } => {
-            in_notification(now.docs.alloc(), now.place, method.as_str(), content)
-        }
+        Message::Notification { .. } => in_diagnostics(now.docs.alloc(), now.place, diagnosed),
         Message::Response { id, .. } => in_response(now, asked, id, content),
     }
 }
@@ -301,37 +301,29 @@ fn push_for(found: &mut Vec<Edited>, since: EventPlace, edit: &Value, uri: &str)
     Ok(())
 }
 
-// ---- notifications
+// ---- diagnostics
 
-/// What a notification of this method has, if it has diagnostics: a version.
-fn in_notification(
+/// What diagnostics have that name this: a version of the document, if there is one.
+fn in_diagnostics(
     alloc: Global,
     place: EventPlace,
-    method: &str,
-    content: &[u8],
+    named: &Option<DocumentVersion>,
 ) -> Result<Vec<Edited>>
     ensures { IfOk result (λ edited. map edited_view edited.items
-        ≡ (if is_diagnostics method.now
-        then option_to_list (option_map (spec.diagnosed_as place) (versioned_in content.now))
-        else [])) }
+        ≡ spec.in_diagnostics place (option_map version_view named.now)) }
 {
-    if !is_diagnostics(method) {
+    let Some(named) = named else {
         return Ok(Vec::new(alloc));
-    }
-    match version_of(alloc, content)? {
-        Some(version) => only(alloc, diagnosed(place, version)),
-        None => Ok(Vec::new(alloc)),
-    }
-}
-
-fn diagnosed(place: EventPlace, version: DocumentVersion) -> Edited
-    ensures { edited_view result ≡ spec.diagnosed_as place (version_view version) }
-{
-    let DocumentVersion { uri, version } = version;
-    Edited {
+    };
+    let Some(version) = named.version else {
+        return Ok(Vec::new(alloc));
+    };
+    let uri = String::from_str(alloc, named.uri.as_str())?;
+    let own = Edited {
         uri,
         since: place,
         version: Some(version),
         edits: None,
-    }
+    };
+    only(alloc, own)
 }

@@ -1,5 +1,6 @@
 //! Which edits and versions of documents the server sends, and the notes on them.
-ghost use Rattle.std.specs.Prelude.{◌≡◌, ◌++◌, ◌∷◌, [], None, List, IfOk, OnOk, map, option_map};
+ghost use Rattle.std.specs.Prelude.{◌≡◌, ◌++◌, ◌∷◌, [], None, Some, List, IfOk, OnOk, map};
+ghost use Rattle.std.specs.Prelude.{option_map};
 ghost use Rattle.std.specs.Prelude.{string_bytes};
 ghost use Rattle.std.specs.List.{cons_option};
 ghost use Rattle.lsp_docs.specs.Calls.{Call as SpecCall};
@@ -10,11 +11,13 @@ ghost use Rattle.lsp_explain.specs.AllNotes.{beyond, counts, server_kinds, serve
 ghost use Rattle.lsp_explain.specs.DocumentNotes.{document_note, notes_view, with_note};
 ghost use Rattle.lsp_explain.specs.History.{on_document};
 ghost use Rattle.lsp_explain.specs.LateEdits.{HoldsLate, lates_view};
+ghost use Rattle.lsp_explain.specs.Naming.{diagnosed_at, diagnosed_in};
 ghost use Rattle.lsp_explain.specs.ServerEdits as spec;
 ghost use Rattle.lsp_explain.specs.ServerEdits.{AreServerEdits, IsNow, NotesBy, edited_view};
 ghost use Rattle.lsp_explain.specs.ServerEdits.{last_answers};
 ghost use Rattle.lsp_explain.specs.TextsSince.{contents};
 ghost use Rattle.lsp_explain.specs.Trails.{IsTrail};
+ghost use Rattle.lsp_outline.specs.Versions.{version_view};
 ghost use Rattle.lsp_replay.specs.Lines.{place_of};
 ghost use Rattle.lsp_replay.specs.Standing.{Holds};
 ghost use Rattle.lsp_replay.specs.Telling.{IsSeen, MaySpeak, Stood, kept_before, rule_of};
@@ -23,6 +26,7 @@ ghost use Rattle.lsp_rpc.specs.Outline.{outline};
 ghost use Rattle.lsp_rpc.specs.Reading.{Reads};
 ghost use Rattle.lsp_rpc.specs.View.{message_view};
 ghost use Rattle.lsp_text.specs.Changes.{edits_of};
+ghost use Rattle.lsp_types.specs.declared.side.Side.TheVariants.{Server};
 ghost use Rattle.lsp_verdict.specs.Event.{Event};
 ghost use Rattle.lsp_verdict.specs.Given.{raw_view};
 ghost use Rattle.lsp_verdict.specs.Heard.{Heard, heard_events};
@@ -37,6 +41,7 @@ use crate::notes::unsent::words_if_unsent;
 use crate::trail::Trail;
 use lsp_docs::{Call, Docs};
 use lsp_facts::Facts;
+use lsp_outline::DocumentVersion;
 use lsp_replay::{EventPlace, Events, Seen};
 use lsp_rpc::{Encoding, Message, Result, Side, Spoken};
 use lsp_text::Lined;
@@ -98,43 +103,38 @@ impl ServerEdits {
         }
     }
 
-    /// Notes the next event, which is kept. The trail is of the events before it. Usually it says
-    /// something of a document, and no answer came late.
+    /// Notes the next event, which is kept and says this of a document. The trail is of the events
+    /// before it. Usually no answer came late.
     ///
     /// # Errors
     /// `Memory` where memory was refused; nothing is then known of what is held.
     #[inline(always)]
-    pub(crate) fn note_event(
+    pub(crate) fn note_call(
         &mut self,
         held: &Events<Lined>,
         trail: &Trail,
         seen: &Seen<'_>,
+        call: Call<'_>,
     ) -> Result<()>
         ensures { OnOk result ((terms : Terms) (before : List Heard) (h : Heard)
             → IsTrail terms trail.now (heard_events before)
             → AreServerEdits terms self.old (heard_events before)
             → IsSeen held.now.session held.now.docs held.now.counts seen.now terms before h
-            → rule_of terms before h ≡ None
+            → rule_of terms before h ≡ None → seen.now.call ≡ Some call.entry
             → AreServerEdits terms self.new (heard_events (before ++ h ∷ []))) }
     {
-        let Some(_call) = seen.call else {
-            return self.note_message(held, trail, seen.raw, seen.spoken);
-        };
         if self.late.is_empty() {
             return Ok(());
         }
-        let Some(call) = seen.call else {
-            return Ok(());
-        };
         let place = EventPlace::last(&held.counts, seen.raw.who());
-        self.note_call(&held.docs, trail, place, call)
+        self.note_change(&held.docs, trail, place, call)
     }
 
     /// Notes an event that says this of a document, if the edits of an answer were made late by it.
     /// The documents are those after it, the trail is of the events before it.
     #[cold]
     #[inline(never)]
-    fn note_call(
+    fn note_change(
         &mut self,
         docs: &Docs<Lined>,
         trail: &Trail,
@@ -161,23 +161,22 @@ impl ServerEdits {
     }
 
     /// Notes a message that is kept and says nothing of a document. The trail is of the events
-    /// before it.
+    /// before it, and this is what its diagnostics name.
     ///
-    /// Apart from `note_event`, so that an event that says something of a document pays for two
-    /// tests alone. It takes parts of what was seen: if all were lent, all would have to stand in
-    /// memory.
-    #[cold]
-    #[inline(never)]
-    fn note_message(
+    /// # Errors
+    /// `Memory` where memory was refused; nothing is then known of what is held.
+    pub(crate) fn note_message(
         &mut self,
         held: &Events<Lined>,
         trail: &Trail,
         raw: Raw<'_>,
         spoken: Option<&Spoken>,
+        diagnosed: &Option<DocumentVersion>,
     ) -> Result<()>
         ensures { OnOk result ((terms : Terms) (before : List Heard) (h : Heard)
             → IsTrail terms trail.now (heard_events before)
             → AreServerEdits terms self.old (heard_events before)
+            → option_map version_view diagnosed.now ≡ diagnosed_at h.note.event
             → Stood terms held.now.session held.now.docs held.now.counts (before ++ h ∷ [])
             → rule_of terms before h ≡ None → IsNoted (raw_view raw.entry) h.note
             → MaySpeak (kept_before terms before) h.note.event (option_map (λ s. s.now) spoken.entry)
@@ -195,21 +194,29 @@ impl ServerEdits {
             Side::Editor => note_edit_request(&mut self.asked, place, &spoken.message, content),
             Side::Server => {
                 let now = now_at(held, trail, place);
-                self.note_server(now, &spoken.message, content)
+                self.note_server(now, &spoken.message, content, diagnosed)
             }
         }
     }
 
-    /// Notes what a message of the server has for documents, read from this content.
-    fn note_server(&mut self, now: Now<'_>, message: &Message, content: &[u8]) -> Result<()>
+    /// Notes what a message of the server has for documents, read from this content. This is what
+    /// its diagnostics name.
+    fn note_server(
+        &mut self,
+        now: Now<'_>,
+        message: &Message,
+        content: &[u8],
+        diagnosed: &Option<DocumentVersion>,
+    ) -> Result<()>
         ensures { OnOk result ((terms : Terms) (before : List Event) (event : Event)
             (m : AMessage) → IsNow terms before event now.entry
             → AreServerEdits terms self.old before → Reads content.now m
             → outline m ≡ outline (message_view message.now)
+            → option_map version_view diagnosed.now ≡ diagnosed_in Server m
             → NotesBy terms before event (spec.edited_in_message terms before
             (spec.uris_with terms before event) (place_of before event) m) self.old self.new) }
     {
-        let edited = edited_by(now, &self.asked, message, content)?;
+        let edited = edited_by(now, &self.asked, message, content, diagnosed)?;
         self.note_all(now, edited.as_slice())
     }
 

@@ -5,14 +5,14 @@ use Rattle.lsp_rpc.specs.Ident.{id_view}
 use Rattle.lsp_rpc.specs.Outline.{outline}
 use Rattle.lsp_rpc.specs.View.{message_view}
 use Rattle.lsp_explain.specs.Naming.{params_of}
-use Rattle.lsp_explain.specs.ServerEdits.{in_notification, in_request, uris_with}
-use Rattle.lsp_explain.proofs.EditedMessages.{notified_so, responds}
+use Rattle.lsp_explain.specs.ServerEdits.{in_diagnostics, in_request, uris_with}
+use Rattle.lsp_explain.proofs.EditedMessages.{responds}
 use Rattle.lsp_explain.proofs.ServerNoting.{has_answer, has_notification, has_request, is_request_so}
 use Rattle.lsp_explain.proofs.notes.edited.edited_by.Goals as goal
 
 pub returns-in-Request : goal.returns-in-Request
 returns-in-Request c = IfOk-weaker c.in_request.result _ _
-    (λ edited is terms before event m now are reads same.
+    (λ edited is terms before event m now are reads same named.
     let uris = uris_with terms before event in
     let id = id_view c.in-Request.id in
     let method = string_bytes c.in-Request.method in
@@ -22,24 +22,19 @@ returns-in-Request c = IfOk-weaker c.in_request.result _ _
     ∙ sym (has_request terms before uris c.args.now.place m id method so)) c.in_request.ensures
 
 pub returns-in-Notification : goal.returns-in-Notification
-returns-in-Notification c = IfOk-weaker c.in_notification.result _ _
-    (λ edited is terms before event m now are reads same.
-    let uris = uris_with terms before event in
-    let place = c.args.now.place in
-    let bytes = c.args.content.now in
-    let method = string_bytes c.in-Notification.method in
-    let so = same ∙ ap (λ w. outline (message_view w)) c.in-Notification.is in
-    is
-    ∙ ?
-    ∙ sym (notified_so place bytes m method reads so)
-    ∙ sym (has_notification terms before uris place m method so)) c.in_notification.ensures
+returns-in-Notification c = IfOk-weaker c.in_diagnostics.result _ _
+    (λ edited is terms before event m now are reads same named.
+    is ∙ ap (in_diagnostics c.args.now.place) named
+    ∙ has_notification terms before (uris_with terms before event) c.args.now.place m
+    (string_bytes c.in-Notification.method)
+    (same ∙ ap (λ w. outline (message_view w)) c.in-Notification.is)) c.in_diagnostics.ensures
 
 pub returns-in-Response : goal.returns-in-Response
 returns-in-Response c = IfOk-weaker c.in_response.result _ _
-    (λ edited is terms before event m now are reads same.
+    (λ edited is terms before event m now are reads same named.
     let uris = uris_with terms before event in
-    let id = option_map id_view c.in-Response.id in
     let reply = responds c.in-Response.id c.in-Response.answer in
     is terms before event m now are reads
-    ∙ sym (has_answer terms before uris c.args.now.place m id reply.0
-    (same ∙ ap (λ w. outline (message_view w)) c.in-Response.is ∙ reply.1))) c.in_response.ensures
+    ∙ sym (has_answer terms before uris c.args.now.place m (option_map id_view c.in-Response.id)
+    reply.0 (same ∙ ap (λ w. outline (message_view w)) c.in-Response.is ∙ reply.1)))
+    c.in_response.ensures

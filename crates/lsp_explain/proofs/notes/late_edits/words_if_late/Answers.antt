@@ -1,7 +1,10 @@
 use Rattle.std.proofs.Common.{◌∙◌, ap, rules, sym, w32}
 use Rattle.std.proofs.lemmas.Int.{to_z-of_z}
 use mir.Val.{SFits}
-use Rattle.lsp_explain.specs.LateEdits.{late_view}
+use Rattle.lsp_docs.specs.Documents.{held}
+use Rattle.lsp_docs.specs.Snapshots.{kept}
+use Rattle.lsp_text.specs.Changes.{edits_of}
+use Rattle.lsp_explain.specs.LateEdits.{late_view, made_late}
 use Rattle.lsp_explain.proofs.LateSteps.{words_not, words_so, words_unknown}
 use Rattle.lsp_explain.proofs.notes.late_edits.words_if_late.Goals as goal
 
@@ -14,7 +17,30 @@ returns-in_default c = λ made setter stands own.
 
 -- the edits were not made late
 pub returns-then-not-branch : goal.returns-then-not-branch
-returns-then-not-branch c = λ made setter stands own. ?
+returns-then-not-branch c = λ made setter stands own.
+    let terms = c.args.docs.now.terms in
+    let uri = c.args.uri.now in
+    let enc = c.args.encoding in
+    let older = c.in-Some.older in
+    let fits : SFits w32 older = search rules in
+    let fits_newer : SFits w32 c.args.newer = search rules in
+    let late = simp to_z-of_z at (c.in_ok-made_late.ensures made stands) in
+    words_not terms made uri enc c.args.setters.now setter (late_view c.args.answer.now) c.args.newer
+    own older (sym c.in-Some.is ∙ c.version_at.ensures)
+    (ap (λ edits. made_late terms.limit enc (edits_of edits) older c.args.newer (kept terms uri made)
+    (held terms uri made)) (sym c.as_slice-edits.ensures.value) ∙ sym late ∙ c.if-not-branch.true)
 
 pub returns : goal.returns
-returns c = λ made setter stands own. ?
+returns c = λ made setter stands own.
+    let terms = c.args.docs.now.terms in
+    let uri = c.args.uri.now in
+    let enc = c.args.encoding in
+    let older = c.in-Some.older in
+    let fits : SFits w32 older = search rules in
+    let fits_newer : SFits w32 c.args.newer = search rules in
+    let late = simp to_z-of_z at (c.in_ok-made_late.ensures made stands) in
+    words_so terms made uri enc c.args.setters.now setter (late_view c.args.answer.now) c.args.newer
+    own older _ (sym c.in-Some.is ∙ c.version_at.ensures)
+    (ap (λ edits. made_late terms.limit enc (edits_of edits) older c.args.newer (kept terms uri made)
+    (held terms uri made)) (sym c.as_slice-edits.ensures.value) ∙ sym late ∙ c.if-not-branch.false)
+    c.in_ok-late_words.ensures

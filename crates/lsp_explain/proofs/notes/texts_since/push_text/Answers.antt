@@ -17,9 +17,11 @@ returns c = λ made stands.
     let texts = c.args.texts.now.items in
     let number = c.args.number in
     let fits : SFits w32 number = search rules in
+    let fits_version : SFits w32 c.args.version = search rules in
+    let less = simp to_z-of_z at c.if-number-version.false in
     let at = simp to_z-of_z at (c.in-Some.ensures made stands) in
     ap contents c.in_ok-push.ensures.items
     ∙ text_more texts c.in_ok-copy.copy _ (text_at number before v) c.in_ok-copy.ensures.content
     at
     ∙ ap (λ (b : Bool). contents texts ++ texts_at before v (if not b then number ∷ [] else []))
-    (sym c.if-number-version.false)
+    (sym less)

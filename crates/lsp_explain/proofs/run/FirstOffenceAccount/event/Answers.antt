@@ -7,11 +7,9 @@ use Rattle.lsp_replay.specs.declared.seen.Fate.{Fate}
 use Rattle.lsp_verdict.specs.Given.{verdict_view}
 use Rattle.lsp_verdict.specs.Heard.{heard_events}
 use Rattle.lsp_verdict.specs.Offences.{Offence}
+use Rattle.lsp_explain.specs.MessageNotes.{AreNoted}
 use Rattle.lsp_explain.specs.Misfits.{AreMisfits, found_kept, found_refuted}
 use Rattle.lsp_explain.specs.Notes.{noticed, note_lines, notes_by}
-use Rattle.lsp_explain.specs.Refusals.{AreRefusals}
-use Rattle.lsp_explain.specs.ServerEdits.{AreServerEdits}
-use Rattle.lsp_explain.specs.Spellings.{AreSpellings}
 use Rattle.lsp_explain.proofs.AccountSteps.{first_kept, first_told}
 use Rattle.lsp_explain.proofs.Misfitting.{found_kept-push}
 use Rattle.lsp_explain.proofs.Telling.{stands_before, told_of}
@@ -28,23 +26,14 @@ returns-in_default c = record {
       (string_bytes c.args.text.now) rule (c.in_ok-keep.ensures terms before h stands.trail seen)
       (subst (AreMisfits _) (sym (found_kept-push terms before h))
       (c.in_ok-note_kept.ensures terms before h _ stands.misfits seen))
-      (c.in_ok-note_event.ensures terms before h stands.trail stands.refusals seen rule)
-      (c.in_ok-note_event-2.ensures terms before h stands.trail stands.spellings seen rule)
-      (c.in_ok-note_event-3.ensures terms before h stands.trail stands.server_edits seen rule);
+      (c.in_ok-note_event.ensures terms before h (heard_events before) stands.trail stands.messages
+      (λ is. refl) seen rule);
 }
 
 -- memory is refused
 pub returns-in_err-note_event-clause-memory : goal.returns-in_err-note_event-clause-memory
 returns-in_err-note_event-clause-memory c =
     on_err c.from_residual.result (λ terms before h stands seen. refl)
-
-pub returns-in_err-note_event-2-clause-memory : goal.returns-in_err-note_event-2-clause-memory
-returns-in_err-note_event-2-clause-memory c =
-    on_err c.from_residual-in_err-note_event-2.result (λ terms before h stands seen. refl)
-
-pub returns-in_err-note_event-3-clause-memory : goal.returns-in_err-note_event-3-clause-memory
-returns-in_err-note_event-3-clause-memory c =
-    on_err c.from_residual-in_err-note_event-3.result (λ terms before h stands seen. refl)
 
 pub returns-in_err-keep-clause-memory : goal.returns-in_err-keep-clause-memory
 returns-in_err-keep-clause-memory c =
@@ -97,10 +86,6 @@ returns c = record {
       (c.in_ok-push_notes.ensures (heard_events before) found
       (stands_before _ terms before h rule stands.trail seen.stood has.0)
       (c.in_ok-note_refuted.ensures terms before h _ stands.misfits seen has.0)
-      (subst (λ (t : Terms). AreRefusals t c.args.self.now.refusals (heard_events before))
-      (sym seen.stood.by) stands.refusals)
-      (subst (λ (t : Terms). AreSpellings t c.args.self.now.spellings (heard_events before))
-      (sym seen.stood.by) stands.spellings)
-      (subst (λ (t : Terms). AreServerEdits t c.args.self.now.server_edits (heard_events before))
-      (sym seen.stood.by) stands.server_edits)));
+      (subst (λ (t : Terms). AreNoted t c.args.self.now.messages (heard_events before)
+      (heard_events before)) (sym seen.stood.by) stands.messages)));
 }

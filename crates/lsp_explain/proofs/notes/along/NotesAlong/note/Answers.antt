@@ -9,9 +9,7 @@ pub returns : goal.returns
 returns c = on_ok_weaker c.note.result (λ behind terms before h trail are seen. record {
   misfits = subst (AreMisfits c.note_changes.new.misfits) (sym (found_along-push terms before h))
       (c.in_ok-note_changes.ensures terms before h _ are.misfits are.behind seen);
-  refusals = c.in_ok-note_messages.ensures.refused terms before h trail are.refusals seen;
-  spellings = c.in_ok-note_messages.ensures.spelled terms before h trail are.spellings seen;
-  server = c.in_ok-note_served.ensures terms before h trail are.broken are.server seen;
+  messages = c.in_ok-note_kept.ensures terms before h trail are.messages are.broken seen;
   broken =
       (λ i. are.broken i || c.offends.ensures terms before h seen.fate i)
       ∙ sym (broken-push terms before h);

@@ -25,8 +25,7 @@ returns c =
     let last = c.in_ok-push_uncompared.ensures
     ∙ ap (λ l. l ++ uncompared v (names_view c.as_slice.result.now)) c.new-last.ensures
     ∙ ap (uncompared v) bare in
-    let noted = c.in_ok-all.ensures events (sound_events terms heard) found stands are.misfits are.refusals
-    are.spellings are.server
+    let noted = c.in_ok-all.ensures events (sound_events terms heard) found stands are.misfits are.messages
     ∙ ap (λ e. notes_by v (with_exit e (with_server terms (sound_events terms heard)
     (noticed terms events found))))
     (c.exit.ensures heard heard stands are) in

@@ -11,9 +11,7 @@ returns c =
     record {
       told = on_ok_weaker c.push_facts.result (λ pushed before h stands are. record {
         misfits = are.misfits;
-        refusals = are.refusals;
-        spellings = are.spellings;
-        server = are.server;
+        messages = are.messages;
         broken = are.broken;
         behind = are.behind;
         refused = are.refused;

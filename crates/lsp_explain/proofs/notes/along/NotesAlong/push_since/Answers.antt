@@ -22,9 +22,9 @@ returns c =
     let d = old_name_notes (option_map (λ r. on_view r.now) c.unless-renamed.result) in
     let e = drop told.past_ends (map document_line (notes_view misfits.past_ends.items)) in
     let f = drop told.range_lengths (map document_line (notes_view misfits.range_lengths.items)) in
-    let g = drop told.refused (map document_line (notes_view c.args.self.now.refusals.refused.items)) in
-    let h = drop told.spelled (map document_line (notes_view c.args.self.now.spellings.named.items)) in
-    let s = c.args.self.now.server_edits in
+    let g = drop told.refused (map document_line (notes_view c.args.self.now.messages.refusals.refused.items)) in
+    let h = drop told.spelled (map document_line (notes_view c.args.self.now.messages.spellings.named.items)) in
+    let s = c.args.self.now.messages.server_edits in
     let served = server_kinds (notes_view s.late_edits.items) (notes_view s.outside.items)
     (notes_view s.overlaps.items) (notes_view s.unsent.items) in
     let k = beyond (server_view told.server) served in
@@ -57,8 +57,8 @@ returns c =
     ∙ (λ i. old ++ (misuses i ++ (exit i ++ (name i ++ (renamed i
     ++ (drop told.past_ends (map document_line (are.misfits.past_ends_are i))
     ++ (drop told.range_lengths (map document_line (are.misfits.range_lengths_are i))
-    ++ (drop told.refused (map document_line (are.refusals.refused_are i))
-    ++ (drop told.spelled (map document_line (are.spellings.named_are i))
-    ++ beyond (server_view told.server) (server_kinds (are.server.late_edits_are i)
-    (are.server.outside_are i) (are.server.overlaps_are i) (are.server.unsent_are i))))))))))))
+    ++ (drop told.refused (map document_line (are.messages.refusals.refused_are i))
+    ++ (drop told.spelled (map document_line (are.messages.spellings.named_are i))
+    ++ beyond (server_view told.server) (server_kinds (are.messages.server.late_edits_are i)
+    (are.messages.server.outside_are i) (are.messages.server.overlaps_are i) (are.messages.server.unsent_are i))))))))))))
     c.push_beyond-5.ensures

@@ -1,37 +1,54 @@
 use Rattle.std.specs.Prelude.{option_map}
-use Rattle.std.proofs.Common.{◌∙◌, ap, refl, sym}
+use Rattle.std.proofs.Common.{◌≡◌, ◌∙◌, ap, subst, sym}
 use Rattle.std.proofs.lemmas.Result.{on_ok_weaker}
-use Rattle.lsp_explain.specs.DocumentNotes.{document_note, notes_view, with_note}
-use Rattle.lsp_explain.specs.History.{on_document}
-use Rattle.lsp_explain.specs.LateEdits.{words_since}
-use Rattle.lsp_explain.proofs.ServerNoting.{late_unchanged}
+use Rattle.lsp_docs.specs.Documents.{Terms}
+use Rattle.lsp_docs.specs.State.{Stands}
+use Rattle.lsp_docs.specs.Taken.{call_view}
+use Rattle.lsp_replay.proofs.Following.{whose_read}
+use Rattle.lsp_replay.proofs.Seeing.{events-push}
+use Rattle.lsp_verdict.specs.Event.{calls}
+use Rattle.lsp_verdict.specs.Given.{AreCounts, raw_view}
+use Rattle.lsp_verdict.specs.Heard.{heard_events}
+use Rattle.lsp_verdict.specs.Offences.{IsNoted, kept_of}
+use Rattle.lsp_verdict.specs.Placed.{Raw}
+use Rattle.lsp_explain.specs.DocumentNotes.{notes_view, with_note}
+use Rattle.lsp_explain.specs.LateEdits.{lates_view}
+use Rattle.lsp_explain.specs.ServerEdits.{calls_with, last_answers, late_by}
+use Rattle.lsp_explain.specs.Trails.{IsTrail}
+use Rattle.lsp_explain.proofs.ServerNoting.{edits_called, edits_quiet}
 use Rattle.lsp_explain.proofs.notes.server_edits.ServerEdits.note_call.Goals as goal
 
--- it changes no document
-pub returns-in_default : goal.returns-in_default
-returns-in_default c = record {
-  asked = refl;
-  late = refl;
-  others = (refl, refl, refl);
-  late_edits = λ before made stands trail are.
-      ap (with_note (notes_view c.args.self.now.late_edits.items))
-      (sym (late_unchanged c.args.docs.now.terms before made c.args.place c.args.call
-      c.in_default.not-Changes));
-}
+-- no answer came late
+pub returns-then-is_empty : goal.returns-then-is_empty
+returns-then-is_empty c = λ terms before h trail are seen kept said.
+    edits_quiet terms before h c.args.self.now _ are kept seen.noted.0
+    (sym seen.says ∙ ap (option_map call_view) said) ?
 
+-- one did
 pub returns : goal.returns
-returns c = rw c.in-Changes.is (record {
-  asked = refl;
-  late = refl;
-  others = (refl, refl, refl);
-  late_edits = on_ok_weaker c.push_if.result (λ noted before made stands trail are.
-      let terms = c.args.docs.now.terms in
-      let uri = c.in-Changes.uri.now in
-      let old = notes_view c.args.self.now.late_edits.items in
-      noted
-      ∙ ap (λ o. with_note old (option_map (document_note (on_document uri c.args.place)) o))
-      (c.in_ok-words.ensures made stands
-      ∙ (λ i. words_since terms made uri c.in-Changes.encoding
-      ((c.as_slice.ensures.value ∙ c.in_ok-setters.ensures terms before trail.marked) i) (are i))))
-      c.push_if.ensures;
-})
+returns c = on_ok_weaker c.note_change.result (λ noted terms before h trail are seen kept said.
+    let events = heard_events before in
+    let event = h.note.event in
+    let raw = raw_view c.args.seen.now.raw in
+    let call = call_view c.args.call in
+    let read = subst (λ (w : Raw). IsNoted w h.note) seen.is seen.noted in
+    let place = c.last-place.result in
+    let at = c.last-place.ensures events event
+    (subst (AreCounts c.args.held.now.counts) (events-push before h) seen.stood.counted)
+    (c.who.ensures ∙ sym (whose_read raw event read.0)) in
+    let old = c.args.self.now in
+    let new = c.note_change.new.self in
+    let made = calls_with terms events event in
+    let says = sym seen.says ∙ ap (option_map call_view) said in
+    edits_called terms before h old new call (late_by terms events made place call) are kept
+    seen.noted.0 says (ap (λ p. late_by terms events made p call) (sym at))
+    c.note_change.ensures.asked c.note_change.ensures.late
+    (subst (λ (t : Terms). IsTrail t c.args.trail.now events
+    → lates_view old.late.items ≡ last_answers t events
+    → notes_view new.late_edits.items
+    ≡ with_note (notes_view old.late_edits.items) (late_by t events made place call))
+    seen.stood.by (noted events made
+    (subst (λ es. Stands c.args.held.now.docs (calls (kept_of terms es))) (events-push before h)
+    seen.stood.holds.called)) trail are.late_are)
+    c.note_change.ensures.others.0 c.note_change.ensures.others.1 c.note_change.ensures.others.2)
+    c.note_change.ensures.late_edits

@@ -33,7 +33,7 @@ returns-in_default-2 c = λ terms before event now.
     ∙ ap (λ p. with_note (notes_view c.args.self.now.unsent.items) (unsent_note terms before event p e))
     now.place)
     (no_texts terms before event e
-    (sym (c.in_ok-texts_of.ensures terms before event now)
+    (sym (c.in_ok-texts.ensures terms before event now)
     ∙ ap (option_map (λ ts. contents ts.items)) c.in_default-2.is))
     refl refl refl
 
@@ -41,7 +41,7 @@ pub returns : goal.returns
 returns c = λ terms before event now.
     let e = edited_view c.args.edited.now in
     let enc = now.encoding in
-    let texts = contents c.in-Some-texts.texts.items in
+    let texts = contents c.in-Some-2.texts.items in
     let edits = edits_of c.in-Some.edits.now.items in
     let seen = c.in_ok-note_sight.ensures in
     notes_seen terms before event e c.args.self.now _ seen.asked seen.late_edits
@@ -51,5 +51,5 @@ returns c = λ terms before event now.
     now.place) (sight texts edits)
     (in_sight terms before event e edits texts
     (ap (option_map (λ v. edits_of v.items)) c.in-Some.is)
-    (sym (c.in_ok-texts_of.ensures terms before event now)
-    ∙ ap (option_map (λ ts. contents ts.items)) c.in-Some-texts.is)) ? ? ?
+    (sym (c.in_ok-texts.ensures terms before event now)
+    ∙ ap (option_map (λ ts. contents ts.items)) c.in-Some-2.is)) ? ? ?
