@@ -60,6 +60,12 @@ function shownCode(code) {
   return code ?? "the end of the text";
 }
 
+const LINE_KINDS = {
+  lf: "LF alone has them",
+  ecmascript: "ECMAScript has them: by U+2028 and U+2029, too",
+  python: "splitlines of Python has them",
+};
+
 const LINE_ENDS = { "\n": "LF", "\r\n": "CR LF", "\r": "CR" };
 
 function shownEnds({ kind, from, to }) {
@@ -109,6 +115,7 @@ const FACTS = {
   length: ["That line", (it) => [`is ${it.count} units long, without its line end`]],
   inside: ["Inside", (it) => ["the column falls into the character ", shownText(it.text)]],
   fits: ["It would fit", (it) => [`if columns were counted in ${inUnitsOf(it.names)}`]],
+  "lines-by": ["It would fit", (it) => [`if lines ended as ${LINE_KINDS[it.name] ?? it.name}`]],
   "at-once": ["It would fit", (it) => [
     `if the ranges of version ${it.version} were all taken in the text before it: `,
     ...shownEvent(it),
@@ -118,6 +125,9 @@ const FACTS = {
   ]],
   without: ["It would fit", (it) => [
     `if version ${it.version} were left out: `, ...shownEvent(it),
+  ]],
+  "right-from": ["Right from", (it) => [
+    `version ${it.version} on: the messages after it fit the text of `, ...shownEvent(it),
   ]],
   bytes: ["Size", (it) => [`the text would have ${it.count} bytes`]],
   limit: ["Limit", (it) => [`${it.count} bytes`]],

@@ -266,6 +266,12 @@ def ends_words(values):
     return "only the one at the very end of the text differs" if values[0] == "last" else "some differ, and nothing else does"
 
 
+LINE_KINDS = {
+    "lf": "LF alone has them",
+    "ecmascript": "ECMAScript has them: by U+2028 and U+2029, too",
+    "python": "splitlines of Python has them",
+}
+
 SENTENCES = {
     "held": ("Held", lambda it: f"version {it[0]}, set by {event_words(it[1:])}"),
     "sent": ("This message", lambda it: f"sets version {it[0]}"),
@@ -279,9 +285,11 @@ SENTENCES = {
     "length": ("That line", lambda it: f"is {it[0]} units long, without its line end"),
     "inside": ("Inside", lambda it: f"the column falls into the character {it[0]}"),
     "fits": ("It would fit", lambda it: f"if columns were counted in {' or '.join(it).upper()}"),
+    "lines-by": ("It would fit", lambda it: f"if lines ended as {LINE_KINDS[it[0]]}"),
     "at-once": ("It would fit", lambda it: f"if the ranges of version {it[0]} were all taken in the text before it: {event_words(it[1:])}"),
     "exchanged": ("It would fit", lambda it: f"if version {it[0]} came after the next one: {event_words(it[1:])}"),
     "without": ("It would fit", lambda it: f"if version {it[0]} were left out: {event_words(it[1:])}"),
+    "right-from": ("Right from", lambda it: f"version {it[0]} on: the messages after it fit the text of {event_words(it[1:])}"),
     "at": ("First difference", place),
     "codes": ("Characters", code_words),
     "ends": ("Line ends", ends_words),

@@ -26,7 +26,8 @@ use Rattle.lsp_replay.specs.TextAnswers.{WritesText}
 use Rattle.lsp_explain.specs.AllNotes.{noted_run}
 use Rattle.lsp_explain.specs.ExplainRuns.{all_run, explain_run}
 use Rattle.lsp_explain.specs.Compared.{compared_run}
-use Rattle.lsp_redact.specs.Redacted.{Redacts}
+use Rattle.lsp_redact.specs.Records.{most_of}
+use Rattle.lsp_redact.specs.Redacting.{redact_run}
 use Rattle.lsp_survey.specs.KeptText.{kept_text_run}
 use Rattle.lsp_survey.specs.SurveyRun.{report_run, show_all_run}
 use Rattle.lsp_command.specs.declared.task_outcome.TaskOutcome.{TaskOutcome}
@@ -89,7 +90,8 @@ Answers limits (Event number) p result =
     × GivesEvent limits p (non_zero_u64_get number) ended
 Answers limits (Rewrite Normal) p result = EndsRun (Normalizes limits p) result
 Answers limits (Rewrite Upgrade) p result = EndsRun (UpgradesLog limits p) result
-Answers limits (Rewrite Redact) p result = EndsRun (Redacts limits p) result
+Answers limits (Rewrite Redact) p result =
+    EndsRun (PassesOn (redact_run (most_of limits)) limits p) result
 Answers limits (Frames mode) p result = EndsRun (RunsFrames mode limits p) result
 
 -- a task is done, and fails where the source or the sink counted a failure

@@ -1,13 +1,11 @@
 -- The two whole texts of the first event that offends.
 use Rattle.std.specs.Prelude.{option_map}
-use Rattle.std.proofs.Common.{◌≡◌, ◌≤◌, ℕ, List, Option, Some, true}
-use Rattle.std.proofs.Common.{arith, sym, ap, subst, ◌∙◌, Bor}
-use Rattle.std.proofs.lemmas.Bool.Decides.{nat_tests}
+use Rattle.std.proofs.Common.{◌≡◌, ℕ, List, Option, Some, sym, ap, subst, ◌∙◌, Bor}
 use Rattle.lsp_docs.specs.State as docs
 use Rattle.lsp_docs.specs.Documents.{Terms}
 use Rattle.lsp_docs.specs.Taken.{call_view}
 use Rattle.lsp_docs.specs.declared.tried.Tried.{Tried}
-use Rattle.lsp_facts.specs.TwoTexts.{TwoTexts, is_of_texts, texts_at}
+use Rattle.lsp_facts.specs.TwoTexts.{TwoTexts, texts_at}
 use Rattle.lsp_replay.specs.Standing.{Holds}
 use Rattle.lsp_replay.specs.Telling.{HasFate, IsSeen, kept_before, rule_of}
 use Rattle.lsp_replay.specs.Tries.{TriesCall, made_in}
@@ -23,8 +21,7 @@ use Rattle.lsp_verdict.specs.Offences.{kept_of}
 use Rattle.lsp_verdict.specs.Verdict.{offence}
 use Rattle.lsp_verdict.specs.declared.counts.Counts.{Counts}
 use Rattle.lsp_verdict.proofs.Offences.Steps.{kept-refused}
-use Rattle.lsp_explain.specs.Compared.{answer_after}
-use Rattle.lsp_explain.specs.Compared.{answer_of}
+use Rattle.lsp_explain.specs.Compared.{answer_after, answer_of}
 use Rattle.lsp_explain.specs.declared.compared.ComparedText.{ComparedText}
 
 -- ---- the first event that offends
@@ -37,9 +34,6 @@ answer_is which terms before h o is = ap (option_map (λ rule.
     answer_of which (texts_at terms (kept_before terms before) h.note.event rule))) is
 
 -- ---- what is compared of an event
-
-pub is_on_documents : (rule : ℕ) → is_of_texts rule ≡ true → 601 ≤ rule
-is_on_documents rule is = grind (arith, nat_tests)
 
 -- what compares what this event says, is compared of it
 pub compared_here : (terms : Terms) (before : List Heard) (h : Heard) (rule : ℕ) (s : Seen)

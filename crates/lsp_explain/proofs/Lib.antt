@@ -32,6 +32,8 @@ pub mod MadeVersions
 pub mod AsciiLines
 pub mod ToldFacts
 pub mod Rearranging
+pub mod OtherLineSteps
+pub mod Uncomparing
 pub mod Trails
 pub mod Ending
 pub mod Comparing

@@ -1,13 +1,9 @@
 -- What is said of an event that offends, by what was seen of it.
-use Rattle.std.specs.Prelude.{◌⊎◌, ℤ, if◌then◌else◌, nat_lt, option_and_then}
-use Rattle.std.specs.Option.{option_or}
-use Rattle.std.proofs.Common.{◌≡◌, ◌<◌, ◌≤◌, ◌++◌, [], ℕ, Bool, Bor, List, Option, Some, None}
+use Rattle.std.specs.Prelude.{◌⊎◌, ℤ, if◌then◌else◌, nat_lt}
+use Rattle.std.proofs.Common.{◌≡◌, ◌<◌, ◌≤◌, ◌++◌, [], ℕ, Bool, Bor, List, Some, None}
 use Rattle.std.proofs.Common.{append-nil, arith, false, inl, inr, refl, sym, ap, ◌∙◌, subst, true}
 use Rattle.std.proofs.lemmas.Bool.Decides.{nat_tests}
-use Rattle.std.proofs.lemmas.Option.{same_Some}
-use Rattle.lsp_docs.specs.Calls.{Call}
 use Rattle.lsp_docs.specs.Documents.{Terms}
-use Rattle.lsp_docs.specs.Rules.{call_rule}
 use Rattle.lsp_frame.specs.Front.{header_front}
 use Rattle.lsp_replay.specs.Telling.{IsSpoken, MaySpeak}
 use Rattle.lsp_rpc.specs.Act.{Act}
@@ -15,13 +11,12 @@ use Rattle.lsp_rpc.specs.Message.{Message, request, notification, response}
 use Rattle.lsp_rpc.specs.Outline.{outline, without_params}
 use Rattle.lsp_rpc.specs.View.{message_view}
 use Rattle.lsp_rpc.specs.declared.act.Spoken.{Spoken}
-use Rattle.lsp_session.proofs.LeastRuleLemmas.{rules_end}
 use Rattle.lsp_session.specs.Handshake.{open_initializes, settled_among}
 use Rattle.lsp_session.specs.OpenInitialize.{Initialize}
 use Rattle.lsp_session.specs.Rules.{rule_after}
 use Rattle.lsp_session.specs.Sent.{Sent}
 use Rattle.lsp_types.specs.declared.side.Side.{Side}
-use Rattle.lsp_verdict.specs.Event.{Event, call_at, calls, message, fault, sent_in, snapshot}
+use Rattle.lsp_verdict.specs.Event.{Event, message, fault, sent_in, snapshot}
 use Rattle.lsp_verdict.specs.Heard.{Rests, rest_of}
 use Rattle.lsp_verdict.specs.Given.{raw_view}
 use Rattle.lsp_verdict.specs.Offences.{kept_of, said_at}
@@ -33,6 +28,7 @@ use Rattle.lsp_verdict.specs.declared.verdict.Who.{Who}
 use Rattle.lsp_facts.specs.EventFacts.{content_facts, AreCallFacts, AreFacts, AreFactsBy}
 use Rattle.lsp_facts.specs.EventFacts.{frame_facts, front_facts, id_in, session_facts}
 use Rattle.lsp_facts.specs.Fact.{Fact, bare_event, content_event, event_line, message_event}
+use Rattle.lsp_facts.proofs.CallBreaks.{by_rule}
 use Rattle.lsp_facts.proofs.SomeFacts.{id_in-outline, message_named, same_line}
 use Rattle.lsp_explain.proofs.SessionSteps.{alike}
 use Rattle.lsp_explain.specs.Asking.{Numbered, numbered}
@@ -108,15 +104,6 @@ module _ (terms : Terms) (before : List Event) (rule : ℕ) where
 
 -- ---- the rule
 
-by_rule : (terms : Terms) (kept : List Event) (m : Sent) (rule : ℕ) → 601 ≤ rule → (o : Option ℕ)
-    → rule_after (sent_in kept) m ≡ o → option_or o (document_rule terms kept (message m)) ≡ Some rule
-    → document_rule terms kept (message m) ≡ Some rule
-by_rule terms kept m rule least None is e = e
-by_rule terms kept m rule least (Some r) is e =
-    let same : r ≡ rule = same_Some r rule e in
-    let below = rules_end (sent_in kept) m r is in
-    absurd (omega (arith, same, below, least))
-
 -- from 601 on it is broken by what a message says about a document
 pub message_breaks : (terms : Terms) (kept : List Event) (event : Event) (side : Side) (s : Spoken)
     (rule : ℕ) → IsSpoken kept event side s → 601 ≤ rule → offence terms kept event ≡ Some rule
@@ -131,20 +118,6 @@ pub shown_breaks : (terms : Terms) (kept : List Event) (event : Event) (number :
     → offence terms kept event ≡ Some rule → document_rule terms kept event ≡ Some rule
 shown_breaks terms kept event number uri text rule own offends =
     ap (document_rule terms kept) own ∙ ap (offence terms kept) (sym own) ∙ offends
-
--- and by the call of any event that says something of one
-pub call_breaks : (terms : Terms) (kept : List Event) (event : Event) (call : Call) (rule : ℕ)
-    → 601 ≤ rule → offence terms kept event ≡ Some rule → call_at kept event ≡ Some call
-    → call_rule terms (calls kept) call ≡ Some rule
-call_breaks terms kept event call rule least offends says =
-    ap (option_and_then (call_rule terms (calls kept))) (sym says) ∙ by_event event offends says
-  where
-    by_event : (e : Event) → offence terms kept e ≡ Some rule → call_at kept e ≡ Some call
-        → document_rule terms kept e ≡ Some rule
-    by_event (message m) is at =
-        by_rule terms kept m rule least (rule_after (sent_in kept) m) refl is
-    by_event (fault side code) is at = absurd (cc at)
-    by_event (snapshot uri number text) is at = is
 
 -- ---- a message as it was heard
 

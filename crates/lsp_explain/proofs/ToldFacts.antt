@@ -13,8 +13,9 @@ use Rattle.lsp_verdict.specs.Event.{Event}
 use Rattle.lsp_explain.specs.Bases.{HoldsAny, base_in, later, sent_in, text_in}
 use Rattle.lsp_explain.specs.Fits.{if_named, own_edits, reached, suspected}
 use Rattle.lsp_explain.specs.SentEdits.{SentEdits, are_few}
-use Rattle.lsp_explain.specs.Told.{fitting_any, setters_until, taken_otherwise, told, told_facts}
+use Rattle.lsp_explain.specs.Told.{fitting_any, setters_until, taken_any, told, told_facts}
 use Rattle.lsp_explain.specs.Told.{told_of}
+use Rattle.lsp_explain.specs.Uncompared.{ShownText, if_later}
 use Rattle.lsp_explain.specs.declared.suspects.Until.{Until}
 use Rattle.lsp_explain.specs.declared.suspects.Until.TheVariants as until
 use Rattle.lsp_explain.specs.declared.trail.base.Base.{Base}
@@ -31,25 +32,28 @@ unsuspected base limit sent call many =
     else [])
     (many-front (later base.number sent) (own_edits call) many)
 
-abbrev told_any : Terms → Encoding → Text → List VersionEvent → List SentEdits → Text → List Fact
-told_any terms enc t setters sent other =
-    fits_fact (fitting_any terms enc t sent other) ++ taken_otherwise terms enc t setters sent other
+abbrev told_any : Terms → Encoding → Text → List VersionEvent → Option ShownText → List SentEdits
+    → Text → List Fact
+told_any terms enc t setters shown sent other =
+    fits_fact (fitting_any terms enc t sent other) ++ taken_any terms enc t setters shown sent other
 
 -- then nothing is said
 pub none_told : (terms : Terms) (enc : Encoding) (limit : Until) (setters : List VersionEvent)
-    (sent : List SentEdits) (call : Call) (base : Version) (texts : Option TwoTexts)
+    (shown : Option ShownText) (sent : List SentEdits) (call : Call) (base : Version)
+    (texts : Option TwoTexts)
     → suspected base limit sent call ≡ []
-    → told_of terms enc limit setters sent call (Some base) texts ≡ []
-none_told terms enc limit setters sent call base None none = refl
-none_told terms enc limit setters sent call base (Some texts) none =
-    ap (λ l. told_any terms enc base.text setters l texts.in_editor) none
+    → told_of terms enc limit setters shown sent call (Some base) texts ≡ []
+none_told terms enc limit setters shown sent call base None none = refl
+none_told terms enc limit setters shown sent call base (Some texts) none =
+    ap (λ l. told_any terms enc base.text setters (if_later base.number shown) l texts.in_editor)
+    none
 
 -- nor without two texts
 pub none_differ : (terms : Terms) (enc : Encoding) (limit : Until) (setters : List VersionEvent)
-    (sent : List SentEdits) (call : Call) (base : Option Version)
-    → told_of terms enc limit setters sent call base None ≡ []
-none_differ terms enc limit setters sent call None = refl
-none_differ terms enc limit setters sent call (Some base) = refl
+    (shown : Option ShownText) (sent : List SentEdits) (call : Call) (base : Option Version)
+    → told_of terms enc limit setters shown sent call base None ≡ []
+none_differ terms enc limit setters shown sent call None = refl
+none_differ terms enc limit setters shown sent call (Some base) = refl
 
 -- ---- what is held of a document
 
@@ -58,6 +62,7 @@ pub record IsKnown (terms : Terms) (equal : Option VersionEvent) (versions : Lis
     (sent : List SentEdits) (b : Base) (t : Text) : Type 0 where
   pub base : Version
   pub is : base_in equal versions ≡ Some base
+  pub since : b.since ≡ base.number
   pub text : t ≡ base.text
   pub all : sent_in b ≡ later base.number sent
   pub few : are_few (sent_in b) ≡ true
@@ -69,27 +74,33 @@ module _ (terms : Terms) (equal : Option VersionEvent) (past kept : List Version
 
   -- nothing is held: nothing is said
   pub nothing_told : (enc : Encoding) (limit : Until) (setters : List VersionEvent)
-      (call : Call) (h : Option Version) (texts : Option TwoTexts) → (h ≡ None → past ≡ []) → Holds h None
-      → told_of terms enc limit setters sent call (base_in equal (past ++ option_to_list h)) texts ≡ []
-  nothing_told enc limit setters call None texts empty holds =
-      ap (λ e. told_of terms enc limit setters sent call (base_in e (past ++ [])) texts) holds.0
-      ∙ ap (λ ps. told_of terms enc limit setters sent call (base_in None (ps ++ [])) texts) (empty refl)
-  nothing_told enc limit setters call (Some v) texts empty holds =
-      ap (λ o. told_of terms enc limit setters sent call o texts) holds.is
-      ∙ none_told terms enc limit setters sent call holds.base texts
+      (shown : Option ShownText) (call : Call) (h : Option Version) (texts : Option TwoTexts)
+      → (h ≡ None → past ≡ []) → Holds h None
+      → told_of terms enc limit setters shown sent call
+      (base_in equal (past ++ option_to_list h)) texts ≡ []
+  nothing_told enc limit setters shown call None texts empty holds =
+      ap (λ e. told_of terms enc limit setters shown sent call (base_in e (past ++ [])) texts)
+      holds.0
+      ∙ ap (λ ps. told_of terms enc limit setters shown sent call (base_in None (ps ++ [])) texts)
+      (empty refl)
+  nothing_told enc limit setters shown call (Some v) texts empty holds =
+      ap (λ o. told_of terms enc limit setters shown sent call o texts) holds.is
+      ∙ none_told terms enc limit setters shown sent call holds.base texts
       (unsuspected holds.base limit sent call holds.holds.many)
 
   -- no text is held
   pub no_text_told : (enc : Encoding) (limit : Until) (setters : List VersionEvent)
-      (call : Call) (h : Option Version) (b : Base) (texts : Option TwoTexts) → text_in b ≡ None → Holds h (Some b)
-      → told_of terms enc limit setters sent call (base_in equal (past ++ option_to_list h)) texts ≡ []
-  no_text_told enc limit setters call None b texts none holds = absurd (cc holds.1)
-  no_text_told enc limit setters call (Some v) b texts none holds =
+      (shown : Option ShownText) (call : Call) (h : Option Version) (b : Base)
+      (texts : Option TwoTexts) → text_in b ≡ None → Holds h (Some b)
+      → told_of terms enc limit setters shown sent call
+      (base_in equal (past ++ option_to_list h)) texts ≡ []
+  no_text_told enc limit setters shown call None b texts none holds = absurd (cc holds.1)
+  no_text_told enc limit setters shown call (Some v) b texts none holds =
       let gone : int_lt holds.base.number b.since ≡ true =
       subst (λ o. MatchOption o (int_lt holds.base.number b.since ≡ true)
       (λ t. (b.since ≡ holds.base.number) × (t ≡ holds.base.text))) none holds.holds.text in
-      ap (λ o. told_of terms enc limit setters sent call o texts) holds.is
-      ∙ none_told terms enc limit setters sent call holds.base texts
+      ap (λ o. told_of terms enc limit setters shown sent call o texts) holds.is
+      ∙ none_told terms enc limit setters shown sent call holds.base texts
       (unsuspected holds.base limit sent call (holds.holds.since_base gone))
 
   -- a text is held: it is that of the base
@@ -103,6 +114,7 @@ module _ (terms : Terms) (equal : Option VersionEvent) (past kept : List Version
       record {
         base = holds.base;
         is = holds.is;
+        since = own.0;
         text = own.1;
         all = holds.holds.sent ∙ ap (λ n. later n sent) own.0;
         few = holds.holds.few;
@@ -112,10 +124,10 @@ module _ (terms : Terms) (equal : Option VersionEvent) (past kept : List Version
 
 -- it is what these tell
 pub some_told : (terms : Terms) (enc : Encoding) (t other : Text) (setters : List VersionEvent)
-    (sent : List SentEdits) → (sent ≡ [] → ⊥)
-    → told_any terms enc t setters sent other ≡ told terms enc t setters sent other
-some_told terms enc t other setters [] some = absurd (some refl)
-some_told terms enc t other setters (s ∷ more) some = refl
+    (shown : Option ShownText) (sent : List SentEdits) → (sent ≡ [] → ⊥)
+    → told_any terms enc t setters shown sent other ≡ told terms enc t setters shown sent other
+some_told terms enc t other setters shown [] some = absurd (some refl)
+some_told terms enc t other setters shown (s ∷ more) some = refl
 
 -- ---- nothing is said
 
@@ -137,9 +149,11 @@ no_own_setter (until.Message p number) done not = absurd (not p number refl)
 
 -- ---- the lines, one after another
 
-pub told_in_turn : (old a b c d : List Fact)
-    → old ++ a ++ b ++ c ++ d ≡ old ++ (a ++ (b ++ c ++ d))
-told_in_turn old a b c d =
-    ap (λ (l : List Fact). l ++ d) (append_assoc (old ++ a) b c)
-    ∙ append_assoc (old ++ a) (b ++ c) d
-    ∙ append_assoc old a (b ++ c ++ d)
+pub told_in_turn : (old a b c d e f : List Fact)
+    → old ++ a ++ b ++ c ++ d ++ e ++ f ≡ old ++ (a ++ (b ++ c ++ d ++ e ++ f))
+told_in_turn old a b c d e f =
+    ap (λ (l : List Fact). l ++ d ++ e ++ f) (append_assoc (old ++ a) b c)
+    ∙ ap (λ (l : List Fact). l ++ e ++ f) (append_assoc (old ++ a) (b ++ c) d)
+    ∙ ap (λ (l : List Fact). l ++ f) (append_assoc (old ++ a) (b ++ c ++ d) e)
+    ∙ append_assoc (old ++ a) (b ++ c ++ d ++ e) f
+    ∙ append_assoc old a (b ++ c ++ d ++ e ++ f)

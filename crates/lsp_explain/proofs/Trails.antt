@@ -43,10 +43,13 @@ use Rattle.lsp_explain.specs.Conversations.{IsConversation, Says}
 use Rattle.lsp_explain.specs.Saves.{AreSaves, event_save, most_saves, save_by, saves_unopened}
 use Rattle.lsp_explain.specs.LastChange.{IsLastChange, change_by, event_change, last_view}
 use Rattle.lsp_explain.specs.Trails.{IsTrail, Keeps}
+use Rattle.lsp_explain.specs.Uncompared.{AreUncompared, LeavesOn, all_left, event_left, last_left}
+use Rattle.lsp_explain.specs.Uncompared.{left_by, left_on, uncompared_in}
 use Rattle.lsp_explain.specs.declared.trail.marks.Marks.{Marks}
 use Rattle.lsp_explain.specs.declared.trail.openings.Openings.{Openings}
 use Rattle.lsp_explain.specs.declared.trail.renames.Renames.{Renames}
 use Rattle.lsp_explain.specs.declared.trail.conversation.Conversation.{Conversation}
+use Rattle.lsp_explain.specs.declared.trail.uncompared.Uncompared.{Uncompared}
 use Rattle.lsp_explain.specs.declared.trail.Trail.{Trail}
 use Rattle.lsp_explain.specs.declared.trail.step.Step.{Step}
 use Rattle.lsp_explain.specs.declared.trail.bases.Bases.{Bases}
@@ -56,6 +59,7 @@ use Rattle.lsp_explain.proofs.Changing.{last_more}
 use Rattle.lsp_explain.proofs.History.{kept_more, refused_more}
 use Rattle.lsp_explain.proofs.Quiet.{call_taken}
 use Rattle.lsp_explain.proofs.SessionSteps.{message_taken, refused_unsaid}
+use Rattle.lsp_explain.proofs.Uncomparing.{left_more}
 
 -- nothing more
 pub none_kept : (m : Marks) (o : Openings) → Keeps None m o m o
@@ -113,6 +117,8 @@ module _ (terms : Terms) (before : List Heard) (h : Heard) (old : Trail)
             (sym (refused_more event_change terms events h.note.event rule offends));
         saved = is.saved ∙ ap (last_ones most_saves)
             (sym (refused_more (event_save terms) terms events h.note.event rule offends));
+        shown = λ uri. is.shown uri ∙ ap (last_left uri)
+            (sym (refused_more (event_left terms) terms events h.note.event rule offends));
         said = refused_unsaid terms old.said events h.note.event rule is.said offends;
       })
 
@@ -126,9 +132,10 @@ module _ (terms : Terms) (before : List Heard) (h : Heard) (old : Trail)
         (kept_calls terms events ++ cons_option more []) new.bases.map.entries
         → IsLastChange terms new.last_change (events ++ h.note.event ∷ [])
         → AreSaves terms new.saves (events ++ h.note.event ∷ [])
+        → AreUncompared terms new.uncompared.map.entries (events ++ h.note.event ∷ [])
         → IsConversation terms new.said (events ++ h.note.event ∷ [])
         → IsTrail terms new (heard_events (before ++ h ∷ []))
-    kept_so more does keeps based changed saved said =
+    kept_so more does keeps based changed saved shown said =
         let whole : kept_calls terms (events ++ h.note.event ∷ [])
         ≡ kept_calls terms events ++ cons_option more [] =
         kept_more (event_kept terms) terms events h.note.event place more kept_here at does in
@@ -142,6 +149,7 @@ module _ (terms : Terms) (before : List Heard) (h : Heard) (old : Trail)
               (sym whole) based;
           changed = changed;
           saved = saved;
+          shown = shown;
           said = said;
         })
 
@@ -221,11 +229,12 @@ module _ (terms : Terms) (before : List Heard) (h : Heard) (old : Trail)
         → last_view new.last_change ≡ option_or (change_by place call) (last_view old.last_change)
         → Holds most_saves (cons_option (save_by terms (calls (kept_before terms before)) place call)
         []) old.saves.saved.items new.saves.saved.items
+        → LeavesOn (left_by place call took) old.uncompared.map.entries new.uncompared.map.entries
         → new.said ≡ record old.said { renames = r } → r.moves ≡ old.said.renames.moves
         → renamed_held r ≡ option_or (renamed_held old.said.renames)
         (renamed_by place (moves_view old.said.renames.moves.items) call)
         → IsTrail terms new (heard_events (before ++ h ∷ []))
-    trail_called call took r reads says told keeps based changed saves same moves renamed =
+    trail_called call took r reads says told keeps based changed saves leaves same moves renamed =
         kept_so (call_kept place call took)
         (ap (option_and_then (λ one. call_kept place one
         (took_by terms (calls (kept_of terms events)) one))) says
@@ -241,6 +250,13 @@ module _ (terms : Terms) (before : List Heard) (h : Heard) (old : Trail)
         ∙ ap (last_ones most_saves) (sym (kept_more (event_save terms) terms events h.note.event
         place (save_by terms (calls (kept_of terms events)) place call) kept_here at
         (ap (option_and_then (save_by terms (calls (kept_of terms events)) place)) says))))
+        (λ uri. leaves uri ∙ ap (left_on (left_by place call took) uri) (is.shown uri)
+        ∙ left_more uri (all_left terms events) (left_by place call took)
+        ∙ ap (last_left uri) (sym (kept_more (event_left terms) terms events h.note.event place
+        (left_by place call took) kept_here at
+        (ap (option_and_then (λ one. left_by place one
+        (took_by terms (calls (kept_of terms events)) one))) says
+        ∙ ap (left_by place call) (sym told)))))
         (subst (λ (n : Conversation). IsConversation terms n (events ++ h.note.event ∷ [])) (sym same)
         (call_taken terms old.said r events h.note.event h.raw place call is.said kept_here reads at
         says moves renamed))
@@ -252,12 +268,14 @@ module _ (terms : Terms) (before : List Heard) (h : Heard) (old : Trail)
         → call_at (kept_before terms before) h.note.event ≡ None
         → new.marks ≡ old.marks → new.openings ≡ old.openings → new.bases ≡ old.bases
         → new.last_change ≡ old.last_change → new.saves ≡ old.saves
+        → new.uncompared ≡ old.uncompared
         → Says place side (message_view s.message)
         (phase (sent_in (kept_of terms (heard_events (before ++ h ∷ [])))))
         (is_done (sent_in (kept_of terms (heard_events (before ++ h ∷ []))))) old.said new.said
         → RenamesIn place side bytes (message_view s.message) None old.said.renames new.said.renames
         → IsTrail terms new (heard_events (before ++ h ∷ []))
-    trail_said side bytes by s reads spoken says marks openings bases last saves told renamed =
+    trail_said side bytes by s reads spoken says marks openings bases last saves shown told
+        renamed =
         let sent = spoken.sent in
         let own = subst (λ (e : Event). Reads (content side bytes) e) spoken.is reads in
         let all : heard_events (before ++ h ∷ []) ≡ events ++ message sent ∷ [] =
@@ -294,6 +312,11 @@ module _ (terms : Terms) (before : List Heard) (h : Heard) (old : Trail)
         place None kept_here at
         (ap (option_and_then (save_by terms (calls (kept_of terms events)) place)) says)
         ∙ append-nil (saves_unopened terms events))))
+        (λ uri. ap (λ (u : Uncompared). uncompared_in u.map.entries uri) shown ∙ is.shown uri
+        ∙ ap (last_left uri) (sym (kept_more (event_left terms) terms events h.note.event place None
+        kept_here at (ap (option_and_then (λ one. left_by place one
+        (took_by terms (calls (kept_of terms events)) one))) says)
+        ∙ append-nil (all_left terms events))))
         (subst (λ (e : Event). IsConversation terms new.said (events ++ e ∷ [])) (sym spoken.is)
         (message_taken terms old.said new.said events sent bytes (message_view s.message) place
         is.said (ap (λ (e : Event). rule_at terms events e) (sym spoken.is) ∙ kept_here)

@@ -3,12 +3,10 @@
 use Rattle.std.specs.Prelude.{List, Option, Some, None, option_map}
 use Rattle.lsp_docs.specs.Documents.{Terms}
 use Rattle.lsp_docs.specs.Calls.{Text}
-use Rattle.lsp_facts.specs.TwoTexts.{TwoTexts, texts_at, texts_view}
-use Rattle.lsp_facts.specs.declared.two_texts.TwoTexts as code
+use Rattle.lsp_facts.specs.TwoTexts.{TwoTexts, texts_at}
 use Rattle.lsp_replay.specs.Run.{Run, Tail}
 use Rattle.lsp_replay.specs.Telling.{kept_before}
 use Rattle.lsp_replay.specs.TextAnswers.{answer_run}
-use Rattle.lsp_text.specs.Counted.{Counted}
 use Rattle.lsp_verdict.specs.Event.{Event}
 use Rattle.lsp_verdict.specs.Heard.{Heard}
 use Rattle.lsp_verdict.specs.Shown.{TextAnswer, text_is, no_difference, refused}
@@ -19,10 +17,6 @@ use Rattle.lsp_explain.specs.declared.compared.ComparedText.TheVariants.{ByMessa
 -- what is asked of the run
 abbrev pub ComparedAsked : Type 0
 ComparedAsked = ComparedText
-
--- two texts, where one is lent with its lines
-abbrev pub seen_texts : code.TwoTexts Counted → TwoTexts
-seen_texts texts = texts_view (λ (s : Counted). s.content) texts
 
 abbrev pub one_of : ComparedText → TwoTexts → Text
 one_of ByMessages texts = texts.by_messages

@@ -13,9 +13,12 @@ pub mod SentEdits
 pub mod Bases
 pub mod Fits
 pub mod Rearranged
+pub mod RightFrom
+pub mod OtherLines
 pub mod Told
 pub mod Traced
 pub mod AsciiLines
+pub mod Uncompared
 pub mod Trails
 pub mod Compared
 pub mod DocumentNotes

@@ -10,6 +10,7 @@ use Rattle.lsp_explain.specs.History.{KeptCall}
 use Rattle.lsp_explain.specs.Marking.{AreMarks, MarkedBy}
 use Rattle.lsp_explain.specs.Openings.{AreOpenings, OpenedBy}
 use Rattle.lsp_explain.specs.Saves.{AreSaves}
+use Rattle.lsp_explain.specs.Uncompared.{AreUncompared}
 use Rattle.lsp_explain.specs.LastChange.{IsLastChange}
 use Rattle.lsp_explain.specs.Conversations.{IsConversation}
 use Rattle.lsp_explain.specs.declared.trail.marks.Marks.{Marks}
@@ -26,6 +27,7 @@ pub record IsTrail (terms : Terms) (t : Trail) (events : List Event) : Type 0 wh
   pub based : AreBases terms t.bases.map.entries events
   pub changed : IsLastChange terms t.last_change events
   pub saved : AreSaves terms t.saves events
+  pub shown : AreUncompared terms t.uncompared.map.entries events
   pub said : IsConversation terms t.said events
 
 -- with one more kept call, or none

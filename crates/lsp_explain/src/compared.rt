@@ -1,22 +1,16 @@
 //! The whole texts of a verdict that says that two texts differ.
-ghost use Rattle.std.specs.Prelude.{◌≡◌, List, None, Some, IfOk, option_map};
-ghost use Rattle.lsp_docs.specs.State.{Stands};
-ghost use Rattle.lsp_docs.specs.Taken.{call_view};
-ghost use Rattle.lsp_facts.specs.TwoTexts.{texts_at};
+ghost use Rattle.std.specs.Prelude.{◌≡◌, None, IfOk, option_map};
+ghost use Rattle.lsp_facts.specs.TwoTexts.{seen_texts};
 ghost use Rattle.lsp_replay.specs.LogEvents.{flaw_of};
 ghost use Rattle.lsp_replay.specs.Run.{PassesOn};
 ghost use Rattle.lsp_replay.specs.TextAnswers.{answer_view};
-ghost use Rattle.lsp_replay.specs.Tries.{TriesCall, made_in};
-ghost use Rattle.lsp_verdict.specs.Event.{Event, call_at, calls};
 ghost use Rattle.lsp_verdict.specs.Heard.{heard_events};
 ghost use Rattle.lsp_verdict.specs.Runs.{ports};
-ghost use Rattle.lsp_verdict.specs.Verdict.{bad_log_of, first_no, offence};
+ghost use Rattle.lsp_verdict.specs.Verdict.{bad_log_of, first_no};
 ghost use Rattle.lsp_explain.specs.Compared as spec;
-ghost use Rattle.lsp_explain.specs.Compared.{ComparedAsked, compared_run};
-ghost use Rattle.lsp_explain.specs.Compared.{seen_texts, sound_answer};
+ghost use Rattle.lsp_explain.specs.Compared.{ComparedAsked, compared_run, sound_answer};
 
-use lsp_docs::{Call, Tried};
-use lsp_facts::{TwoTexts, texts_of};
+use lsp_facts::{TwoTexts, texts_at};
 use lsp_frame::{Limits, Sink, Source};
 use lsp_replay::{Account, End, Events, Fate, Flow, LogEvents, Seen, TextAnswer, pass};
 use lsp_rpc::Result;
@@ -86,27 +80,6 @@ impl Account for OneText {
     ) -> Result<Outcome> {
         let outcome = answer_at(end).add(text)?;
         Ok(outcome)
-    }
-}
-
-/// The two texts of an event that offends by this rule and says this about a document, where it has
-/// any; this was tried of its changes.
-fn texts_at<'a>(
-    held: &'a Events<Lined>,
-    call: Option<Call<'a>>,
-    rule: u16,
-    tried: Option<&'a Tried<Lined>>,
-) -> Option<TwoTexts<'a, Lined>>
-    ensures { (kept : List Event) (event : Event) → Stands held.now.docs (calls kept)
-        → option_map call_view call.entry ≡ call_at kept event
-        → offence held.now.docs.terms kept event ≡ Some rule
-        → TriesCall held.now.docs.terms kept (call_at kept event) rule
-        (made_in (option_map (λ t. t.now) tried.entry))
-        → option_map seen_texts result ≡ texts_at held.now.docs.terms kept event rule }
-{
-    match call {
-        Some(call) => texts_of(&held.docs, call, rule, tried),
-        None => None,
     }
 }
 

@@ -11,11 +11,14 @@ ghost use Rattle.lsp_explain.specs.Fits.{suspects_view};
 ghost use Rattle.lsp_explain.specs.Marking.{AreMarks, recent, steps};
 ghost use Rattle.lsp_explain.specs.Told as spec;
 ghost use Rattle.lsp_explain.specs.Trails.{StandsAfter, terms_in};
+ghost use Rattle.lsp_explain.specs.Uncompared.{shown_view};
 
 use crate::fits::{Suspect, Trial, listed, push_fitting, suspects_of};
+use crate::other_lines::push_lines_by;
 use crate::rearranged::{Way, push_rearranged};
+use crate::right_from::push_right_from;
 use crate::suspects::Until;
-use crate::trail::{Marks, Past, VersionEvent};
+use crate::trail::{Marks, Past, ShownText, VersionEvent};
 use lsp_docs::{Call, Tried};
 use lsp_facts::{Facts, texts_of};
 use lsp_rpc::{Encoding, Result};
@@ -63,7 +66,8 @@ pub(crate) fn push_told(
         text,
         other: texts.in_editor,
     };
-    push_tried(facts, trial, suspects.as_slice(), setters.as_slice())
+    let shown = trail.uncompared.later(call.uri(), base.since);
+    push_tried(facts, trial, suspects.as_slice(), setters.as_slice(), shown)
 }
 
 /// The messages that may be named: the last ones that set a version, and the call that offends,
@@ -88,19 +92,23 @@ fn setters_until(marks: &Marks, uri: &str, until: Until) -> Result<Vec<VersionEv
     }
 }
 
-/// Adds in which other encodings the suspects make the other text, and which of them would have to
-/// be taken otherwise.
+/// Adds in which other encodings, and with which other line ends, the suspects make the other text,
+/// which of them would have to be taken otherwise, and after which snapshot they are right.
 fn push_tried(
     facts: &mut Facts,
     trial: Trial<'_>,
     suspects: &[Suspect<'_>],
     setters: &[VersionEvent],
+    shown: Option<&ShownText>,
 ) -> Result<()>
     ensures { OnOk result (facts.new ≡ facts.old
-        ++ spec.told_by trial.entry setters.now (suspects_view suspects.now)) }
+        ++ spec.told_by trial.entry setters.now (option_map (λ s. shown_view s.now) shown.entry)
+        (suspects_view suspects.now)) }
 {
     push_fitting(facts, trial, suspects)?;
+    push_lines_by(facts, trial, suspects)?;
     push_rearranged(facts, trial, Way::AtOnce, suspects, setters)?;
     push_rearranged(facts, trial, Way::Exchanged, suspects, setters)?;
-    push_rearranged(facts, trial, Way::Without, suspects, setters)
+    push_rearranged(facts, trial, Way::Without, suspects, setters)?;
+    push_right_from(facts, trial, suspects, shown)
 }

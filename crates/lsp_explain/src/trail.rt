@@ -3,7 +3,8 @@
 //!
 //! [`Marks`] says which events left a document as it is, [`Openings`] which opened and closed
 //! documents last, [`Bases`] which texts and changes some had last, [`LastChange`] which message
-//! changed some and how, [`Saves`] which saved some that were not open, and [`Conversation`] by
+//! changed some and how, [`Saves`] which saved some that were not open, [`Uncompared`] which
+//! snapshots were not compared, and [`Conversation`] by
 //! which requests were asked and answered, which led to the phase, and what the notes say of the
 //! messages.
 ghost use Rattle.std.specs.Prelude.{◌≡◌, ◌++◌, ◌∷◌, [], IfOk, List, None, OnOk, Some, option_map};
@@ -33,6 +34,7 @@ mod renames;
 mod saves;
 mod standard_methods;
 mod step;
+mod uncompared;
 
 use crate::trail::saves::Saves;
 use crate::trail::step::{Step, step_of};
@@ -52,6 +54,7 @@ pub(crate) use misuses::{Misuse, Misused};
 pub(crate) use openings::{Closing, DocumentEvent, Openings};
 pub(crate) use renames::text_at;
 use std::alloc::Global;
+pub(crate) use uncompared::{ShownText, Uncompared};
 
 /// Which kept events left the documents as they are, which opened and closed them last, changed
 /// them, and saved others, and which sent and answered requests and led to the phase.
@@ -62,6 +65,7 @@ pub(crate) struct Trail {
     pub(crate) bases: Bases,
     pub(crate) last_change: LastChange,
     pub(crate) saves: Saves,
+    pub(crate) uncompared: Uncompared,
     pub(crate) said: Conversation,
 }
 
@@ -83,6 +87,7 @@ impl Trail {
             bases: Bases::new(alloc),
             last_change: LastChange::new(alloc),
             saves: Saves::new(alloc),
+            uncompared: Uncompared::new(alloc),
             said: Conversation::new(alloc),
         }
     }
@@ -108,6 +113,7 @@ impl Trail {
         let place = EventPlace::last(&held.counts, seen.raw.who());
         self.last_change.keep(&place, call)?;
         self.saves.keep(&held.docs, &place, call)?;
+        self.uncompared.keep(&place, call, took)?;
         let Some(step) = step_of(call, took) else {
             return Ok(());
         };

@@ -11,4 +11,5 @@ pub mod ShapedMembers
 pub mod SomeFacts
 pub mod TextsDiffer
 pub mod OneFacts
+pub mod CallBreaks
 pub mod Worked

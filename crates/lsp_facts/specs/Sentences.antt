@@ -1,5 +1,5 @@
 -- What the lines that are said about an event mean together, in one plain sentence.
-use Rattle.std.specs.Prelude.{ℕ, List, [], ◌∷◌, ◌++◌, ◌×◌, ◌&&◌, ◌==◌, Bool, Option, Some, None}
+use Rattle.std.specs.Prelude.{ℕ, List, [], ◌∷◌, ◌++◌, ◌&&◌, ◌==◌, Bool, Option, Some, None}
 use Rattle.std.specs.Prelude.{codes, if◌then◌else◌, map}
 use Rattle.std.specs.Borrow.{Bor}
 use Rattle.std.specs.List.{list_any, starts_with}
@@ -14,7 +14,7 @@ pub record Row : Type 0 where
   pub sentence : List ℕ
 
 abbrev pub row_view : Bor (List ℕ) × Bor (List ℕ) × Bor (List ℕ) → Row
-row_view row = record { one = row.0.now; other = row.1.0.now; sentence = row.1.1.now }
+row_view row = record { one = row.0.now; other = row.1.now; sentence = row.2.now }
 
 -- some line begins so
 abbrev pub has_line : List (List ℕ) → List ℕ → Bool
@@ -30,7 +30,7 @@ row_for (row ∷ others) lines = if holds row lines then Some row else row_for o
 
 -- **the rows of the sentences**
 unfoldable pub rows : List Row
-rows = map row_view ROWS
+rows = map (λ row. record { one = row.0.now; other = row.1.now; sentence = row.2.now }) ROWS
 
 abbrev pub so_line : Option Row → List ℕ
 so_line None = []

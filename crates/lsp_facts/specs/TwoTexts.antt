@@ -7,6 +7,7 @@ use Rattle.lsp_docs.specs.Rules.{call_rule, other_than}
 use Rattle.lsp_docs.specs.Documents.{Terms, Version, versioned, held}
 use Rattle.lsp_docs.specs.Snapshots.{kept}
 use Rattle.lsp_types.specs.declared.rules.TheConstants as rules
+use Rattle.lsp_text.specs.Counted.{Counted}
 use Rattle.lsp_text.specs.SameText.{SameText}
 use Rattle.lsp_verdict.specs.Event.{call_at, calls, Event}
 use Rattle.lsp_facts.specs.declared.lent_text.LentText.{LentText}
@@ -38,6 +39,10 @@ two_texts made other = record { by_messages = made; in_editor = other }
 
 abbrev pub texts_view : {S : Type 0} → (S → Text) → code.TwoTexts S → TwoTexts
 texts_view content t = two_texts (lent_text content t.by_messages) (chars t.in_editor.now)
+
+-- the same of texts that are kept with their lines
+abbrev pub seen_texts : code.TwoTexts Counted → TwoTexts
+seen_texts texts = texts_view (λ (s : Counted). s.content) texts
 
 -- ---- by what was called
 

@@ -6,9 +6,9 @@
 //! documents. [`content_facts`] are on a content that is not a message or has params of another
 //! shape, [`frame_facts`] on a stream whose frames have a fault, [`front_facts`] on one that ends
 //! inside a frame, [`flaw_facts`] on a log that has a fault.
-//! [`refuting`] finds the snapshots whose texts refute a call, and [`texts_of`] gives two whole
-//! texts that differ. [`push_details`] adds facts to a text, and [`push_message_event`] and those
-//! next to it the line of an event.
+//! [`refuting`] finds the snapshots whose texts refute a call, and [`texts_of`] and [`texts_at`]
+//! give two whole texts that differ. [`push_details`] adds facts to a text, and
+//! [`push_message_event`] and those next to it the line of an event.
 #![tactic(auto)]
 
 mod blame;
@@ -49,5 +49,5 @@ pub use lines::{
     push_bare_event, push_content_event, push_details, push_end_event, push_message_event,
 };
 pub use messages::{front_facts, id_in, session_facts};
-pub use two_texts::{TwoTexts, texts_of};
+pub use two_texts::{TwoTexts, texts_at, texts_of};
 pub use waiting::refuting;

@@ -10,7 +10,7 @@ use lsp_rpc::{Result, push_quoted};
 pub(crate) type Row = (&'static str, &'static str, &'static str);
 
 /// The first row whose lines are there has the sentence.
-pub(crate) const ROWS: [Row; 22] = [
+pub(crate) const ROWS: [Row; 26] = [
     (
         "fits utf-8\n",
         "encoding utf-16\n",
@@ -47,6 +47,21 @@ pub(crate) const ROWS: [Row; 22] = [
         "The editor seems to count columns in another encoding than the agreed one.",
     ),
     (
+        "lines-by lf\n",
+        "",
+        "The editor seems to end lines at LF alone; LSP ends them at CR, too.",
+    ),
+    (
+        "lines-by ecmascript\n",
+        "",
+        "The editor seems to end lines at U+2028 and U+2029, too; LSP does not.",
+    ),
+    (
+        "lines-by python\n",
+        "",
+        "The editor seems to end lines as splitlines of Python does; LSP has fewer line ends.",
+    ),
+    (
         "at-once ",
         "",
         "The editor may count all ranges of a message in the text before it.",
@@ -60,6 +75,11 @@ pub(crate) const ROWS: [Row; 22] = [
         "without ",
         "",
         "The editor may have sent a change that it did not make.",
+    ),
+    (
+        "right-from ",
+        "",
+        "The last messages seem right; an earlier one is wrong, or a change was never sent.",
     ),
     (
         "ends converted ",

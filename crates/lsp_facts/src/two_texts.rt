@@ -8,12 +8,16 @@ ghost use Rattle.lsp_docs.specs.State.{Stands};
 ghost use Rattle.lsp_docs.specs.Taken.{call_view};
 ghost use Rattle.lsp_docs.specs.Tried.{IsTried, tried_in};
 ghost use Rattle.lsp_facts.specs.TwoTexts as spec;
-ghost use Rattle.lsp_facts.specs.TwoTexts.{brought_view, texts_view};
+ghost use Rattle.lsp_facts.specs.TwoTexts.{brought_view, seen_texts, texts_view};
+ghost use Rattle.lsp_replay.specs.Tries.{TriesCall, made_in};
+ghost use Rattle.lsp_verdict.specs.Event.{Event, call_at, calls};
+ghost use Rattle.lsp_verdict.specs.Verdict.{offence};
 
 use crate::lent_text::LentText;
 use crate::made::{Brought, brings};
 use lsp_docs::{Call, Docs, Tried};
-use lsp_text::TextStore;
+use lsp_replay::Events;
+use lsp_text::{Lined, TextStore};
 use lsp_types::rules;
 
 /// Two texts of one document that differ.
@@ -23,6 +27,27 @@ pub struct TwoTexts<'a, S: TextStore> {
     pub by_messages: LentText<'a, S>,
     /// The one that the editor saved, or that a snapshot has.
     pub in_editor: &'a str,
+}
+
+/// The two texts of an event that offends by this rule and says this about a document, where it has
+/// any; this was tried of its changes.
+pub fn texts_at<'a>(
+    held: &'a Events<Lined>,
+    call: Option<Call<'a>>,
+    rule: u16,
+    tried: Option<&'a Tried<Lined>>,
+) -> Option<TwoTexts<'a, Lined>>
+    ensures { (kept : List Event) (event : Event) → Stands held.now.docs (calls kept)
+        → option_map call_view call.entry ≡ call_at kept event
+        → offence held.now.docs.terms kept event ≡ Some rule
+        → TriesCall held.now.docs.terms kept (call_at kept event) rule
+        (made_in (option_map (λ t. t.now) tried.entry))
+        → option_map seen_texts result ≡ spec.texts_at held.now.docs.terms kept event rule }
+{
+    match call {
+        Some(call) => texts_of(&held.docs, call, rule, tried),
+        None => None,
+    }
 }
 
 /// The two texts of a call that breaks this rule: none where that is not 608 or 702. The documents

@@ -6,7 +6,7 @@ pub(crate) type Row = (&'static str, &'static str);
 
 /// The rows of the lines of a report: of a verdict, of a log that was not judged, of details, of
 /// notes, and of events.
-pub(crate) const ROWS: [Row; 112] = [
+pub(crate) const ROWS: [Row; 114] = [
     ("yes", "yes"),
     ("yes", "yes remark=nothing-compared"),
     ("read fault", "read fault"),
@@ -82,9 +82,11 @@ pub(crate) const ROWS: [Row; 112] = [
     ("snapshot", "snapshot @"),
     ("equal", "equal version=* @"),
     ("suspect", "suspect version=* @"),
+    ("lines-by", "lines-by name=*"),
     ("at-once", "at-once version=* @"),
     ("exchanged", "exchanged version=* @"),
     ("without", "without version=* @"),
+    ("right-from", "right-from version=* @"),
     ("closed", "closed @"),
     ("opened", "opened never"),
     ("saved-as", "saved-as @"),

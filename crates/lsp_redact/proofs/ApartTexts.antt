@@ -1,54 +1,13 @@
 -- The character by which two texts stay apart, as the code finds it.
-use Rattle.std.proofs.Common.{◌≡◌, ℕ, ◌+◌, ◌<◌, ◌≤◌, ◌==◌, true, List, [], ◌∷◌, ◌++◌, length, drop, get_or}
+use Rattle.std.proofs.Common.{◌≡◌, ℕ, ◌+◌, ◌<◌, ◌==◌, List, [], ◌∷◌, length, drop, get_or}
 use Rattle.std.proofs.Common.{Option, Some, None, IsUtf8, refl, subst, sym, ap, ◌∙◌, arith, if◌then◌else◌}
-use Rattle.std.specs.Prelude.{chars, option_and_then}
-use Rattle.std.specs.Option.{option_or}
+use Rattle.std.specs.Prelude.{chars}
 use Rattle.std.specs.Str.Iter.{chars_rest, chars_steps}
 use Rattle.std.specs.declared.str.Chars.{Chars}
 use Rattle.std.proofs.lemmas.Bool.Decides.{nat_tests}
 use Rattle.std.proofs.lemmas.List.{at_drop_more, drop_all}
-use Rattle.std.proofs.lemmas.Option.{same_Some}
 use Rattle.std.proofs.lemmas.Str.{IsUtf8-past_char, chars-nil, chars_past_char}
-use Rattle.lsp_docs.specs.Calls.{Call}
-use Rattle.lsp_docs.specs.Documents.{Terms}
-use Rattle.lsp_docs.specs.Rules.{call_rule}
-use Rattle.lsp_facts.specs.TwoTexts.{is_of_texts}
-use Rattle.lsp_session.specs.Rules.{rule_after}
-use Rattle.lsp_session.specs.Sent.{Sent}
-use Rattle.lsp_session.proofs.LeastRuleLemmas.{rules_end}
-use Rattle.lsp_verdict.specs.Event.{Event, call_at, calls, fault, message, sent_in, snapshot}
-use Rattle.lsp_verdict.specs.Verdict.{document_rule, offence}
 use Rattle.lsp_redact.specs.Characters.{first_other}
-
--- ---- the rule
-
-pub is_on_documents : (rule : ℕ) → is_of_texts rule ≡ true → 601 ≤ rule
-is_on_documents rule is = grind (arith, nat_tests)
-
-by_rule : (terms : Terms) (kept : List Event) (m : Sent) (rule : ℕ) → 601 ≤ rule → (o : Option ℕ)
-    → rule_after (sent_in kept) m ≡ o → option_or o (document_rule terms kept (message m)) ≡ Some rule
-    → document_rule terms kept (message m) ≡ Some rule
-by_rule terms kept m rule least None is e = e
-by_rule terms kept m rule least (Some r) is e =
-    let same : r ≡ rule = same_Some r rule e in
-    let below = rules_end (sent_in kept) m r is in
-    absurd (omega (arith, same, below, least))
-
--- from 601 on it is broken by what the event says about a document
-pub call_breaks : (terms : Terms) (kept : List Event) (event : Event) (call : Call) (rule : ℕ)
-    → 601 ≤ rule → offence terms kept event ≡ Some rule → call_at kept event ≡ Some call
-    → call_rule terms (calls kept) call ≡ Some rule
-call_breaks terms kept event call rule least offends says =
-    ap (option_and_then (call_rule terms (calls kept))) (sym says) ∙ by_event event offends says
-  where
-    by_event : (e : Event) → offence terms kept e ≡ Some rule → call_at kept e ≡ Some call
-        → document_rule terms kept e ≡ Some rule
-    by_event (message m) is at =
-        by_rule terms kept m rule least (rule_after (sent_in kept) m) refl is
-    by_event (fault side code) is at = absurd (cc at)
-    by_event (snapshot uri number text) is at = is
-
--- ---- the first character that differs
 
 nothing_left : (xs : List ℕ) → length xs ≡ 0 → xs ≡ []
 nothing_left [] h = refl

@@ -3,9 +3,7 @@ use Rattle.std.specs.Prelude.{ℕ, List, [], ◌∷◌, map, Bool, true, false, 
 use Rattle.std.specs.Prelude.{if◌then◌else◌, Option, Some, None, chars, encode_utf8_all}
 use Rattle.lsp_types.specs.declared.line_ends.LineEnds.{LineEnds}
 use Rattle.lsp_text.specs.SameText.{compared}
-use Rattle.lsp_facts.specs.TwoTexts.{TwoTexts, texts_view}
-use Rattle.lsp_facts.specs.declared.two_texts.TwoTexts as code
-use Rattle.lsp_text.specs.Counted.{Counted}
+use Rattle.lsp_facts.specs.TwoTexts.{TwoTexts}
 use Rattle.lsp_redact.specs.declared.characters.Kind.{Kind}
 use Rattle.lsp_redact.specs.declared.characters.Kind.TheVariants.{Small, Capital, Digit, Other}
 use Rattle.lsp_redact.specs.declared.characters.Kind.TheVariants.{TwoBytes, ThreeBytes, FourBytes}
@@ -63,10 +61,6 @@ abbrev pub shown_bytes : Option ℕ → List ℕ → List ℕ
 shown_bytes apart bytes = encode_utf8_all (shown_text apart (chars bytes))
 
 -- ---- the character by which two texts stay apart
-
--- two texts, where one is lent with its lines
-abbrev pub seen_texts : code.TwoTexts Counted → TwoTexts
-seen_texts texts = texts_view (λ (s : Counted). s.content) texts
 
 -- the character of the second text where it first differs from the first, unless it ends there
 abbrev pub first_other : List ℕ → List ℕ → Option ℕ

@@ -2,6 +2,7 @@
 use Rattle.std.specs.Prelude.{◌≡◌, ℕ, ◌≤◌, List, length, map, Option, Some, None}
 use Rattle.lsp_extract.specs.Normal.{IsOnEvents}
 use Rattle.lsp_frame.specs.Bounds.{Bounds, IsInRange}
+use Rattle.lsp_replay.specs.RunLaws.{WritesAtItsEnd}
 use Rattle.lsp_session.specs.Entry.{Entry}
 use Rattle.lsp_text.specs.Edits.{Edit, applied}
 use Rattle.lsp_text.specs.Places.{units}
@@ -15,6 +16,7 @@ use Rattle.lsp_verdict.specs.declared.outcome.Outcome.{Outcome}
 use Rattle.lsp_redact.specs.Characters.{first_other, kind_of, shown_text}
 use Rattle.lsp_redact.specs.Names.{Names, shown_id, shown_method, shown_uri}
 use Rattle.lsp_redact.specs.Redacted.{IsRedacted}
+use Rattle.lsp_redact.specs.Redacting.{redact_run}
 use Rattle.lsp_redact.specs.ShownEdits.{shown_edit, shown_made}
 use Rattle.lsp_redact.specs.declared.characters.Kind.{Kind}
 use Rattle.lsp_redact.specs.declared.characters.Kind.TheVariants.{Other}
@@ -54,6 +56,10 @@ SomeRedacted = (limits : Bounds) → IsInRange limits → (log : List ℕ)
 abbrev pub OneRedacted : Type 0
 OneRedacted = (limits : Bounds) → IsInRange limits → (log out other : List ℕ) (a b : Outcome)
     → IsRedacted limits log out a → IsRedacted limits log other b → (out ≡ other) × (a ≡ b)
+
+-- **Nothing of it is written before the run ends.**
+abbrev pub RedactedAtItsEnd : Type 0
+RedactedAtItsEnd = (most : ℕ) → WritesAtItsEnd (redact_run most)
 
 -- what is written is no longer than a log or a content may be, and a character fits into a record
 pub record HasRoom (limits : Bounds) (out : List ℕ) : Type 0 where

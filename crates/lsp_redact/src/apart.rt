@@ -4,16 +4,15 @@ ghost use Rattle.std.specs.Prelude.{string_bytes};
 ghost use Rattle.lsp_docs.specs.State.{Stands};
 ghost use Rattle.lsp_docs.specs.Taken.{call_view};
 ghost use Rattle.lsp_redact.specs.Characters as spec;
-ghost use Rattle.lsp_redact.specs.Characters.{seen_texts};
 ghost use Rattle.lsp_redact.specs.Redacting.{apart_at};
-ghost use Rattle.lsp_facts.specs.TwoTexts.{texts_at};
+ghost use Rattle.lsp_facts.specs.TwoTexts.{seen_texts};
 ghost use Rattle.lsp_replay.specs.Tries.{TriesCall, made_in};
 ghost use Rattle.lsp_text.specs.SameText as same;
 ghost use Rattle.lsp_verdict.specs.Event.{Event, call_at, calls};
 ghost use Rattle.lsp_verdict.specs.Verdict.{offence};
 
 use lsp_docs::{Call, Tried};
-use lsp_facts::{TwoTexts, texts_of};
+use lsp_facts::{TwoTexts, texts_at};
 use lsp_replay::Events;
 use lsp_rpc::Result;
 use lsp_text::{Lined, compared_lines};
@@ -57,27 +56,6 @@ fn apart_in(alloc: Global, texts: &TwoTexts<'_, Lined>, line_ends: LineEnds) -> 
     let by_messages = compared(alloc, by_messages.as_str(), line_ends)?;
     let in_editor = compared(alloc, texts.in_editor, line_ends)?;
     Ok(first_other(by_messages.as_str(), in_editor.as_str()))
-}
-
-/// The two texts of an event that offends by this rule and says this about a document, where it has
-/// any; this was tried of its changes.
-fn texts_at<'a>(
-    held: &'a Events<Lined>,
-    call: Option<Call<'a>>,
-    rule: u16,
-    tried: Option<&'a Tried<Lined>>,
-) -> Option<TwoTexts<'a, Lined>>
-    ensures { (kept : List Event) (event : Event) → Stands held.now.docs (calls kept)
-        → option_map call_view call.entry ≡ call_at kept event
-        → offence held.now.docs.terms kept event ≡ Some rule
-        → TriesCall held.now.docs.terms kept (call_at kept event) rule
-        (made_in (option_map (λ t. t.now) tried.entry))
-        → option_map seen_texts result ≡ texts_at held.now.docs.terms kept event rule }
-{
-    match call {
-        Some(call) => texts_of(&held.docs, call, rule, tried),
-        None => None,
-    }
 }
 
 /// The character by which two texts stay apart, where there are two.

@@ -1,7 +1,7 @@
 //! Laws of logs with their words replaced, each the contract of a function that does nothing.
 ghost use Rattle.lsp_redact.specs.Laws.{EditsStay, KindsDecide, OneRedacted, OtherTextsStay};
-ghost use Rattle.lsp_redact.specs.Laws.{RedactedKeepsVerdict, SameTextsStay, SomeRedacted};
-ghost use Rattle.lsp_redact.specs.Laws.{UnitsStay};
+ghost use Rattle.lsp_redact.specs.Laws.{RedactedAtItsEnd, RedactedKeepsVerdict, SameTextsStay};
+ghost use Rattle.lsp_redact.specs.Laws.{SomeRedacted, UnitsStay};
 ghost use Rattle.lsp_redact.specs.ShownCalls.{DifferencesStay, DocumentRulesStay, HeldTextsStay};
 
 /// Every byte sequence has a log that is its own with its words replaced.
@@ -12,6 +12,11 @@ pub fn some_redacted()
 /// It has only one, which ends in one way.
 pub fn one_redacted()
     ensures { OneRedacted }
+{}
+
+/// Nothing of it is written before its run ends.
+pub fn redacted_at_its_end()
+    ensures { RedactedAtItsEnd }
 {}
 
 /// Where it has room for them, it has the verdict of the log, up to names, if that is about

@@ -25,6 +25,7 @@ mod values;
 
 pub use laws::{
     differences_stay, document_rules_stay, edits_stay, held_texts_stay, kinds_decide, one_redacted,
-    other_texts_stay, redacted_keeps_verdict, same_texts_stay, some_redacted, units_stay,
+    other_texts_stay, redacted_at_its_end, redacted_keeps_verdict, same_texts_stay, some_redacted,
+    units_stay,
 };
 pub use run::run_redact;

@@ -1,5 +1,7 @@
 //! Writes a log with its words replaced.
-ghost use Rattle.lsp_redact.specs.Redacted.{Redacts};
+ghost use Rattle.lsp_redact.specs.Records.{most_of};
+ghost use Rattle.lsp_redact.specs.Redacting.{redact_run};
+ghost use Rattle.lsp_replay.specs.Run.{PassesOn};
 ghost use Rattle.lsp_verdict.specs.Runs.{ports};
 
 use crate::redacting::Redacting;
@@ -28,8 +30,9 @@ pub fn run_redact<R: Source, W: Sink>(
     writer: &mut W,
     limits: Limits,
 ) -> Result<Outcome, RunFault>
-    ensures redacts { Redacts limits (ports (R.told reader.old) (R.told reader.new)
-        (W.told writer.old) (W.told writer.new)) result }
+    ensures passes { PassesOn (redact_run (most_of limits)) limits
+        (ports (R.told reader.old) (R.told reader.new) (W.told writer.old) (W.told writer.new))
+        result }
 {
     let most = (limits.chunk() / MOST_BYTES) as usize;
     let mut account = Redacting::new(alloc, most);

@@ -34,7 +34,7 @@ pub(crate) struct SentChanges {
 #[derive(Drop)]
 pub(crate) struct Base {
     /// The version of the text. Once that is no longer held, the one after which the changes come.
-    since: i32,
+    pub(crate) since: i32,
     pub(crate) text: Option<Lined>,
     pub(crate) sent: Vec<SentChanges>,
     /// How large further changes may be.

@@ -182,10 +182,10 @@ pub returns-in-Rewrite-Redact : goal.returns-in-Rewrite-Redact
 returns-in-Rewrite-Redact g c =
     let arm = c.in-Rewrite-Redact in
     let first = rw arm.is at arm.field-0-is in
-    let is = c.run_redact.ensures.redacts in
+    let is = c.run_redact.ensures.passes in
     let of = c.of_run-in-Rewrite-Redact.ensures in
     rw (arm.is, first)
-    (record { ran = run_ended _ _ _ _ _ of is.counts (_, of, is) })
+    (record { ran = passed _ _ _ _ _ _ of is (_, of, is) })
 
 pub returns-in-Frames : goal.returns-in-Frames
 returns-in-Frames g c =

@@ -4,7 +4,7 @@ use Rattle.lsp_explain.proofs.run_noted.run_explain_noted.Goals as goal
 pub pass_in-requires : goal.pass_in-requires
 pass_in-requires g c = record {
   begins = c.new-account.ensures.stands;
-  quiet = noted_quiet c.new-account.result.completeness;
+  quiet = noted_quiet c.new-account.result.causes.completeness;
 }
 
 pub returns : goal.returns

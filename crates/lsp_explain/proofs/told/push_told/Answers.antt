@@ -16,6 +16,7 @@ use Rattle.lsp_explain.specs.Fits.{suspected, suspects_in, suspects_view}
 use Rattle.lsp_explain.specs.Marking.{agreed, recent, steps}
 use Rattle.lsp_explain.specs.Told.{agreed_encoding, setters_until, told, told_of}
 use Rattle.lsp_explain.specs.Trails.{terms_in}
+use Rattle.lsp_explain.specs.Uncompared.{if_later, uncompared, uncompared_in}
 use Rattle.lsp_explain.proofs.ToldFacts.{known, no_text_told, none_differ, none_told, nothing_told}
 use Rattle.lsp_explain.proofs.ToldFacts.{some_told, untold}
 use Rattle.lsp_explain.proofs.told.push_told.Goals as goal
@@ -30,11 +31,12 @@ returns-in_default c = λ before stands breaks tried.
     let done = steps terms uri before in
     let equal = agreed done in
     let setters = setters_until c.args.until (recent done) in
+    let shown = uncompared terms before uri in
     let nothing = c.in_default.ensures
     ∙ ap (held_of c.args.past.trail.now.bases.map.entries) c.uri.ensures in
     untold c.args.facts.now terms before c.args.rule c.args.until call
     (nothing_told terms equal (past terms uri made) (kept terms uri made) (sent_since uri made)
-    (agreed_encoding (kept_of terms before)) c.args.until setters call (held terms uri made)
+    (agreed_encoding (kept_of terms before)) c.args.until setters shown call (held terms uri made)
     (texts_of terms made call c.args.rule) (nothing-past terms uri made)
     (subst (HoldsAfter terms uri made equal) (sym nothing) (stands.trail.based uri)))
 
@@ -48,13 +50,14 @@ returns-in_default-text c = λ before stands breaks tried.
     let done = steps terms uri before in
     let equal = agreed done in
     let setters = setters_until c.args.until (recent done) in
+    let shown = uncompared terms before uri in
     let base = c.in-Some.base.now in
     let is = c.in-Some.ensures
     ∙ ap (held_of c.args.past.trail.now.bases.map.entries) c.uri.ensures in
     untold c.args.facts.now terms before c.args.rule c.args.until call
     (no_text_told terms equal (past terms uri made) (kept terms uri made) (sent_since uri made)
-    (agreed_encoding (kept_of terms before)) c.args.until setters call (held terms uri made) base
-    (texts_of terms made call c.args.rule)
+    (agreed_encoding (kept_of terms before)) c.args.until setters shown call (held terms uri made)
+    base (texts_of terms made call c.args.rule)
     (ap (option_map (λ t. t.content)) c.in_default-text.is)
     (subst (HoldsAfter terms uri made equal) (sym is) (stands.trail.based uri)))
 
@@ -68,6 +71,7 @@ returns-in_default-suspects_of c = λ before stands breaks tried.
     let done = steps terms uri before in
     let equal = agreed done in
     let setters = setters_until c.args.until (recent done) in
+    let shown = uncompared terms before uri in
     let sent = sent_since uri made in
     let limit = c.args.until in
     let texts = texts_of terms made call c.args.rule in
@@ -79,8 +83,8 @@ returns-in_default-suspects_of c = λ before stands breaks tried.
     (subst (HoldsAfter terms uri made equal) (sym is) (stands.trail.based uri)) in
     let enc = agreed_encoding (kept_of terms before) in
     untold c.args.facts.now terms before c.args.rule limit call
-    (ap (λ o. told_of terms enc limit setters sent call o texts) k.is
-    ∙ none_told terms enc limit setters sent call k.base texts
+    (ap (λ o. told_of terms enc limit setters shown sent call o texts) k.is
+    ∙ none_told terms enc limit setters shown sent call k.base texts
     (ap (λ l. suspects_in limit l call) (sym k.all) ∙ c.in_default-suspects_of.ensures k.few))
 
 -- there are no two texts
@@ -92,12 +96,13 @@ returns-in_default-texts_of c = λ before stands breaks tried.
     let made = calls (kept_of terms before) in
     let sent = sent_since uri made in
     let setters = setters_until c.args.until (recent (steps terms uri before)) in
+    let shown = uncompared terms before uri in
     let enc = agreed_encoding (kept_of terms before) in
     let base = base_at terms before uri in
     untold c.args.facts.now terms before c.args.rule c.args.until call
-    (ap (told_of terms enc c.args.until setters sent call base)
+    (ap (told_of terms enc c.args.until setters shown sent call base)
     (sym (c.in_default-texts_of.ensures made stands.holds.called (λ is. breaks) (λ is. tried)))
-    ∙ none_differ terms enc c.args.until setters sent call base)
+    ∙ none_differ terms enc c.args.until setters shown sent call base)
 
 pub returns : goal.returns
 returns c = on_ok_weaker c.push_tried.result (λ said before stands breaks tried.
@@ -112,6 +117,7 @@ returns c = on_ok_weaker c.push_tried.result (λ said before stands breaks tried
     let sent = sent_since uri made in
     let limit = c.args.until in
     let setters = setters_until limit (recent done) in
+    let shown = uncompared terms before uri in
     let is = c.in-Some.ensures
     ∙ ap (held_of c.args.past.trail.now.bases.map.entries) c.uri.ensures in
     let k = known terms equal (past terms uri made) (kept terms uri made) sent
@@ -130,11 +136,17 @@ returns c = on_ok_weaker c.push_tried.result (λ said before stands breaks tried
     let same_setters = c.as_slice-2.ensures.value
     ∙ c.in_ok-setters.ensures terms before stands.trail.marked
     ∙ ap (λ u. setters_until limit (recent (steps terms u before))) c.uri-2.ensures in
+    let later = if_later k.base.number shown in
+    let same_shown = c.later.ensures
+    ∙ (λ i. if_later (k.since i) (uncompared_in c.args.past.trail.now.uncompared.map.entries
+    (c.uri-3.ensures i)))
+    ∙ ap (if_later k.base.number) (stands.trail.shown uri) in
     said
-    ∙ (λ i. old ++ told terms (same_enc i) (k.text i) (same_setters i) (same_edits i) other)
-    ∙ ap (λ more. old ++ more) (sym (some_told terms enc k.base.text other setters edits
+    ∙ (λ i. old ++ told terms (same_enc i) (k.text i) (same_setters i) (same_shown i) (same_edits i)
+    other)
+    ∙ ap (λ more. old ++ more) (sym (some_told terms enc k.base.text other setters later edits
     (λ none. suspects.some (all ∙ none))))
-    ∙ ap (λ o. old ++ told_of terms enc limit setters sent call (Some k.base) o)
+    ∙ ap (λ o. old ++ told_of terms enc limit setters shown sent call (Some k.base) o)
     (c.in-Some-texts_of.ensures made stands.holds.called (λ is. breaks) (λ is. tried))
-    ∙ ap (λ o. old ++ told_of terms enc limit setters sent call o
+    ∙ ap (λ o. old ++ told_of terms enc limit setters shown sent call o
     (texts_of terms made call c.args.rule)) (sym k.is)) c.push_tried.ensures

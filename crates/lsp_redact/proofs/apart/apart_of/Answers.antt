@@ -1,7 +1,8 @@
 use Rattle.std.proofs.Common.{ap, ◌∙◌}
 use Rattle.std.specs.Prelude.{option_and_then, option_map}
 use Rattle.lsp_types.specs.declared.line_ends.LineEnds.{LineEnds}
-use Rattle.lsp_redact.specs.Characters.{apart_in, seen_texts}
+use Rattle.lsp_facts.specs.TwoTexts.{seen_texts}
+use Rattle.lsp_redact.specs.Characters.{apart_in}
 use Rattle.lsp_redact.proofs.apart.apart_of.Goals as goal
 
 pub returns : goal.returns

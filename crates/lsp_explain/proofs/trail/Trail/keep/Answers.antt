@@ -72,14 +72,14 @@ returns-in_default-step_of c = λ terms before h is seen.
     (ap (option_map (λ uri. on_document uri place))
     ((λ i. unopened_save (seen.stood.by i) (calls_after terms before h (Some call) has.0 says i)
     call) ∙ save_same terms (calls (kept_before terms before)) call))
-    (c.in_ok-keep-2.ensures _ seen.stood.holds.called)) refl refl
+    (c.in_ok-keep-2.ensures _ seen.stood.holds.called)) c.in_ok-keep-3.ensures refl refl
     (sym (ap (option_or (renamed_held old.said.renames))
     (no_edit call took place moved (sym c.in_default-step_of.ensures))
     ∙ option_or-none (renamed_held old.said.renames)))
 
 -- it does something to one
 pub returns : goal.returns
-returns c = on_ok_weaker c.keep-3.result (λ texts terms before h is seen.
+returns c = on_ok_weaker c.keep-4.result (λ texts terms before h is seen.
     let old = c.args.self.now in
     let new = c.keep_step.new in
     let raw = raw_view c.args.seen.now.raw in
@@ -99,7 +99,7 @@ returns c = on_ok_weaker c.keep-3.result (λ texts terms before h is seen.
     (subst (λ more. Keeps more old.marks old.openings new.marks new.openings)
     (ap (λ u. Some (kept_call u place step)) c.uri.ensures
     ∙ ap (option_map (kept_call (uri_of call) place)) c.in-Some-step_of.ensures) done.kept)
-    (based_called terms before h _ is (record old { bases = c.keep-3.new.self }) has.0 _ at
+    (based_called terms before h _ is (record old { bases = c.keep-4.new.self }) has.0 _ at
     c.args.held.now.session c.args.held.now.docs c.args.held.now.counts call c.in-Kept.took step
     c.in_ok-is_equal.is_equal seen.stood says told c.in-Some-step_of.ensures
     (done.equal ∙ ap (λ u. finds_equal step (marked_in old.marks.map.entries u)) c.uri.ensures)
@@ -110,5 +110,5 @@ returns c = on_ok_weaker c.keep-3.result (λ texts terms before h is seen.
     (ap (option_map (λ uri. on_document uri place))
     ((λ i. unopened_save (seen.stood.by i) (calls_after terms before h (Some call) has.0 says i)
     call) ∙ save_same terms (calls (kept_before terms before)) call))
-    (c.in_ok-keep-2.ensures _ seen.stood.holds.called))
-    refl c.keep_call.ensures.moves c.in_ok-keep_call.ensures.renamed) c.keep-3.ensures
+    (c.in_ok-keep-2.ensures _ seen.stood.holds.called)) c.in_ok-keep-3.ensures
+    refl c.keep_call.ensures.moves c.in_ok-keep_call.ensures.renamed) c.keep-4.ensures

@@ -33,5 +33,5 @@ returns c = on_ok_two c.keep.result (λ told renamed terms before h is stood rul
     let done = c.is_done-done.ensures sents stood.holds.sent in
     let heard = rw c.in-Some.is at spoken in
     trail_said terms before h _ is _ rule _ place side bytes heard.0 c.in-Some.spoken.now reads
-    heard.1 says refl refl refl refl refl
+    heard.1 says refl refl refl refl refl refl
     (rw (phase, done) at told) renamed) c.keep.ensures.said c.keep.ensures.renames

@@ -1,5 +1,6 @@
 use Rattle.std.proofs.Common.{[], refl, subst, sym}
 use Rattle.lsp_explain.specs.Bases.{AreBases}
+use Rattle.lsp_explain.specs.Uncompared.{AreUncompared}
 use Rattle.lsp_explain.proofs.trail.Trail.new.Goals as goal
 
 pub returns : goal.returns
@@ -9,5 +10,6 @@ returns c = λ terms. record {
   based = subst (λ es. AreBases terms es []) (sym c.new-3.ensures) (λ uri. (refl, refl));
   changed = c.new-4.ensures terms;
   saved = c.new-5.ensures terms;
-  said = c.new-6.ensures;
+  shown = subst (λ es. AreUncompared terms es []) (sym c.new-6.ensures) (λ uri. refl);
+  said = c.new-7.ensures;
 }

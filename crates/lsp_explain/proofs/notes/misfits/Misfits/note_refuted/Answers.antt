@@ -17,7 +17,7 @@ use Rattle.lsp_verdict.specs.Placed.{Raw}
 use Rattle.lsp_verdict.proofs.Offences.Steps.{kept-refused}
 use Rattle.lsp_explain.specs.Misfits.{call_found, findings_of, finds}
 use Rattle.lsp_explain.proofs.Misfitting.{misfits_refuted}
-use Rattle.lsp_explain.proofs.SaidFacts.{call_breaks}
+use Rattle.lsp_facts.proofs.CallBreaks.{call_breaks}
 use Rattle.lsp_explain.proofs.notes.misfits.Misfits.note_refuted.Goals as goal
 
 pub returns : goal.returns

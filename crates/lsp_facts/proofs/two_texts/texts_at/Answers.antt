@@ -6,8 +6,8 @@ use Rattle.lsp_replay.specs.Tries.{IsTriedOf, made_in}
 use Rattle.lsp_text.specs.Counted.{Counted}
 use Rattle.lsp_verdict.specs.Event.{call_at, calls}
 use Rattle.lsp_facts.specs.TwoTexts.{texts_of}
-use Rattle.lsp_redact.proofs.ApartTexts.{call_breaks, is_on_documents}
-use Rattle.lsp_redact.proofs.apart.texts_at.Goals as goal
+use Rattle.lsp_facts.proofs.CallBreaks.{call_breaks, is_on_documents}
+use Rattle.lsp_facts.proofs.two_texts.texts_at.Goals as goal
 
 pub returns-in-Some : goal.returns-in-Some
 returns-in-Some c = λ kept event stands says offends tries.

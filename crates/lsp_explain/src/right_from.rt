@@ -1,0 +1,73 @@
+//! From which snapshot on the suspects make the text that the editor had.
+ghost use Rattle.std.specs.Prelude.{◌≡◌, ◌++◌, IfOk, OnOk, option_map};
+ghost use Rattle.lsp_explain.specs.Bases.{later};
+ghost use Rattle.lsp_explain.specs.Fits.{suspects_view};
+ghost use Rattle.lsp_explain.specs.RightFrom as spec;
+ghost use Rattle.lsp_explain.specs.Uncompared.{shown_view};
+
+use crate::fits::{Suspect, Trial, gives};
+use crate::trail::ShownText;
+use lsp_facts::Facts;
+use lsp_rpc::Result;
+use lsp_text::{Lined, TextStore};
+use std::alloc::Global;
+
+/// Adds the snapshot, if there is one, of whose text the suspects after it make the other text.
+pub(crate) fn push_right_from(
+    facts: &mut Facts,
+    trial: Trial<'_>,
+    suspects: &[Suspect<'_>],
+    shown: Option<&ShownText>,
+) -> Result<()>
+    ensures { OnOk result (facts.new ≡ facts.old ++ spec.facts_by trial.entry
+        (option_map (λ s. shown_view s.now) shown.entry) (suspects_view suspects.now)) }
+{
+    let Some(shown) = shown else {
+        return Ok(());
+    };
+    if !is_right_from(trial, suspects, shown)? {
+        return Ok(());
+    }
+    facts.version_by("right-from", shown.version, shown.place)
+}
+
+/// Whether the suspects after a snapshot, of which there has to be one, make the other text of its
+/// text.
+fn is_right_from(trial: Trial<'_>, suspects: &[Suspect<'_>], shown: &ShownText) -> Result<bool>
+    ensures { IfOk result (λ is_right. is_right
+        ≡ spec.is_right_by trial.entry (suspects_view suspects.now) (shown_view shown.now)) }
+{
+    let Trial {
+        docs,
+        encoding,
+        other,
+        ..
+    } = trial;
+    let after = later_ones(docs.alloc(), suspects, shown.version)?;
+    if after.is_empty() {
+        return Ok(false);
+    }
+    let text = Lined::from_text(docs.alloc(), shown.text.as_str())?;
+    let text = &text;
+    let trial = Trial {
+        docs,
+        encoding,
+        text,
+        other,
+    };
+    gives(trial, encoding, after.as_slice())
+}
+
+/// The suspects that set a version after this one.
+fn later_ones<'a>(alloc: Global, suspects: &[Suspect<'a>], version: i32) -> Result<Vec<Suspect<'a>>>
+    ensures { IfOk result (λ all. suspects_view all.items
+        ≡ later version (suspects_view suspects.now)) }
+{
+    let mut after = Vec::new(alloc);
+    for suspect in suspects {
+        if version < suspect.version {
+            after.push(*suspect)?;
+        }
+    }
+    Ok(after)
+}
