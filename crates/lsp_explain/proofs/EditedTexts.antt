@@ -213,6 +213,13 @@ module _ (kept : List Version) (v : Option Version) (number : ℤ) (lent : Optio
       ∙ sym (ap (λ (b : Bool). if b then Some all_texts else None)
       (lent_text lent (text_at number kept v) at ∙ some_is ∙ ap not is))
 
+-- an item that is there, whatever stands for one that is not
+pub get_or_any : (ns : List ℤ) (i : ℕ) (d : ℤ) → i < length ns
+    → get_or ns i d ≡ get_or ns i (get_or ns i d)
+get_or_any [] i d lt = absurd (omega arith)
+get_or_any (n ∷ ns) 0 d lt = refl
+get_or_any (n ∷ ns) (suc i) d lt = get_or_any ns i d (omega arith)
+
 -- the text at one more number
 pub texts_next : (kept : List Version) (v : Option Version) (version : ℤ) (numbers : List ℤ)
     (i : ℕ) (n : ℤ) (whole done new : List Text) → i < length numbers → n ≡ get_or numbers i n
@@ -221,7 +228,7 @@ pub texts_next : (kept : List Version) (v : Option Version) (version : ℤ) (num
     → whole ≡ new ++ texts_at kept v (not_below version (drop (i + 1) numbers))
 texts_next kept v version numbers i n whole done new lt is so more =
     let rest = drop (i + 1) numbers in
-    let of = λ ns. texts_at kept v (not_below version ns) in
+    let of : List ℤ → List Text = λ ns. texts_at kept v (not_below version ns) in
     let split : of (n ∷ rest) ≡ of (n ∷ []) ++ of rest =
     ap (texts_at kept v) (filter-append (λ (m : ℤ). not (int_lt m version)) (n ∷ []) rest)
     ∙ filter_map-append (λ (m : ℤ). text_at m kept v) (not_below version (n ∷ []))

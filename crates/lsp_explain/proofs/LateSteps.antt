@@ -61,9 +61,9 @@ module _ (limit : ℕ) (enc : Encoding) (edits : List Edit) (older newer now : O
     pub made_newer : (m : Bool) → makes limit enc edits t b ≡ true
         → m ≡ makes limit enc edits t a
         → not m ≡ makes_late limit enc edits older newer now
-    made_newer m yes of_older =
+    made_newer m of_newer of_older =
         ap not of_older
-        ∙ sym (ap (λ (x : Bool). x && not (makes limit enc edits t a)) yes) ∙ so
+        ∙ sym (ap (λ (x : Bool). x && not (makes limit enc edits t a)) of_newer) ∙ so
 
 -- ---- the words of a note
 
@@ -156,12 +156,19 @@ module _ (terms : Terms) (before : List Event) (uri : List ℕ) (number : ℤ)
   words_by_test b is =
       ap (λ (x : Bool). if x then Some (unsent_words number) else None) (sym is ∙ sent_by)
 
-  pub set_before : unset ≡ false → None ≡ if_unsent terms before uri number
-  set_before is = words_by_test false (ap (λ b. b && never) is)
-
   pub closed_before : unset ≡ true → never ≡ false → None ≡ if_unsent terms before uri number
   closed_before is none = words_by_test false (λ i. is i && none i)
 
   pub unsent_so : unset ≡ true → never ≡ true
       → Some (unsent_words number) ≡ if_unsent terms before uri number
   unsent_so is never_so = words_by_test true (λ i. is i && never_so i)
+
+-- a message may have set it
+pub set_before : (terms : Terms) (before : List Event) (uri : List ℕ) (number : ℤ)
+    (setters : List VersionEvent) (unset : Bool) → setters ≡ recent (steps terms uri before)
+    → unset ≡ is_unset number setters → unset ≡ false
+    → None ≡ if_unsent terms before uri number
+set_before terms before uri number setters unset are is none =
+    let never = is_never (closing_of uri (closings terms before)) in
+    ap (λ (b : Bool). if b && never then Some (unsent_words number) else None)
+    (sym none ∙ is ∙ ap (is_unset number) are)

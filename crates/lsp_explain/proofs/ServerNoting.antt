@@ -301,6 +301,11 @@ notes_by_none terms before event s = record {
   unsent_more = refl;
 }
 
+-- where there are none
+pub none_in : {A : Type 0} (xs : List A) → length xs ≡ 0 → xs ≡ []
+none_in [] none = refl
+none_in (x ∷ xs) none = absurd (omega arith)
+
 -- ---- a message that says nothing of a document
 
 module _ (terms : Terms) (before : List Heard) (h : Heard) (old : ServerEdits)

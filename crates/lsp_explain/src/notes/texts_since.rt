@@ -105,7 +105,8 @@ fn texts_at(docs: &Docs<Lined>, uri: &str, version: i32, numbers: &[i32]) -> Res
 {
     let mut texts = Vec::new(docs.alloc());
     for number in numbers {
-        push_text(&mut texts, docs, uri, version, *number)?;
+        let number = *number;
+        push_text(&mut texts, docs, uri, version, number)?;
     }
     Ok(texts)
 }

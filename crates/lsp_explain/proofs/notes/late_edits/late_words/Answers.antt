@@ -12,7 +12,7 @@ returns c =
     let answered = flat_map spaced (place_words c.args.answer.now.answered) in
     c.in_ok-push_place-2.ensures
     ∙ ap (λ w. w ++ answered) (c.in_ok-push_place.ensures
-    ∙ ap (λ w. w ++ asked) c.in_ok-words.ensures)
+    ∙ ap (λ w. w ++ asked) c.in_ok-words.ensures.ok)
     ∙ append_assoc head asked answered
     ∙ ap (λ w. head ++ w) (sym (flat_map-append spaced (place_words c.args.answer.now.asked)
     (place_words c.args.answer.now.answered)))

@@ -1,5 +1,5 @@
-use Rattle.std.specs.Prelude.{option_map}
-use Rattle.std.proofs.Common.{◌≡◌, ◌∙◌, ap, subst, sym}
+use Rattle.std.specs.Prelude.{length, option_map}
+use Rattle.std.proofs.Common.{◌≡◌, ◌∙◌, ap, rules, subst, sym}
 use Rattle.std.proofs.lemmas.Result.{on_ok_weaker}
 use Rattle.lsp_docs.specs.Documents.{Terms}
 use Rattle.lsp_docs.specs.State.{Stands}
@@ -15,14 +15,17 @@ use Rattle.lsp_explain.specs.DocumentNotes.{notes_view, with_note}
 use Rattle.lsp_explain.specs.LateEdits.{lates_view}
 use Rattle.lsp_explain.specs.ServerEdits.{calls_with, last_answers, late_by}
 use Rattle.lsp_explain.specs.Trails.{IsTrail}
-use Rattle.lsp_explain.proofs.ServerNoting.{edits_called, edits_quiet}
+use Rattle.lsp_explain.proofs.ServerNoting.{edits_called, edits_quiet, none_in}
 use Rattle.lsp_explain.proofs.notes.server_edits.ServerEdits.note_call.Goals as goal
 
 -- no answer came late
 pub returns-then-is_empty : goal.returns-then-is_empty
 returns-then-is_empty c = λ terms before h trail are seen kept said.
+    let late = c.args.self.now.late in
+    let none : length late.items ≡ 0 =
+    search (rules, c.is_empty.ensures, c.if-is_empty.true, late.ok.0) in
     edits_quiet terms before h c.args.self.now _ are kept seen.noted.0
-    (sym seen.says ∙ ap (option_map call_view) said) ?
+    (sym seen.says ∙ ap (option_map call_view) said) (none_in late.items none)
 
 -- one did
 pub returns : goal.returns
