@@ -280,9 +280,9 @@ fn is_shutdown(act: &Act) -> bool
     matches!(act, Act::Shutdown)
 }
 
-/// Notes a message that is kept. The trail is of the events before it. Where an earlier event broke
-/// a rule, what the server sends is left out: after one that is skipped, it may have other texts and
-/// versions.
+/// Notes a message that is kept. The trail is of the events before it. Where an earlier event
+/// broke a rule, what the server sends is left out: after one that is skipped, it may have other
+/// texts and versions.
 fn note_kept(
     messages: &mut MessageNotes,
     held: &Events<Lined>,
