@@ -13,6 +13,7 @@ from listing import KINDS, Listing, explained
 from program import Failed
 from report_lines import Report
 from session import MOST_EXPLAINED, read_session
+from smallest import smallest_of, start_smallest
 
 HERE = Path(__file__).resolve().parent
 # In the order in which they are run. Each defines functions for those after it.
@@ -32,6 +33,7 @@ SCRIPTS = [
     "details.js",
     "who.js",
     "overview.js",
+    "smallest.js",
     "markdown.js",
     "rows.js",
     "lanes.js",
@@ -181,6 +183,7 @@ def write_page(file, runs, given):
     all_explained = runs.start("explain", "--all", "--json")
     said = report_of(runs)
     texts = texts_of(runs, said[0])
+    smallest = start_smallest(runs) if given.small else None
     listing = Listing(listed.objects(), 2 * given.most_events + LISTED_ALWAYS)
     shown, choice = listing, cuts.Everything()
     if not cuts.is_short(runs, listed, given):
@@ -205,6 +208,7 @@ def write_page(file, runs, given):
         "report": lines,
         "left": cuts.left_out(runs, listing, choice, session, given),
         "small": given.small,
+        "smallest": smallest and smallest_of(smallest),
         "texts": texts,
         "blocks": contents.counts,
     }

@@ -39,8 +39,8 @@ class Progress:
 class Run:
     """A command of lspcheck, which reads the log on standard input: its name may be any bytes."""
 
-    def __init__(self, program, words, progress):
-        self.program, self.words, self.progress = program, words, progress
+    def __init__(self, program, words, progress, name):
+        self.program, self.words, self.progress, self.name = program, words, progress, name
         self.log = open(program.log, "rb")
         # Line ends are LF; in what a line shows there may be others.
         text = {"encoding": "utf-8", "errors": "replace", "newline": "\n"}
@@ -59,7 +59,7 @@ class Run:
             except subprocess.TimeoutExpired:
                 # The command reads from the same open file, so its place there is this one's too.
                 read = os.lseek(self.log.fileno(), 0, os.SEEK_CUR)
-                self.progress.advance(f"lspcheck {self.words[0]}", read)
+                self.progress.advance(self.name, read)
 
     def done(self):
         """Waits for an answer, or fails with the command's own words."""
@@ -103,7 +103,9 @@ class Runs:
         for run in self.runs:
             run.close()
 
-    def start(self, *words):
+    def start(self, *words, program=None, name=None):
+        """Starts a command of lspcheck, or another program that reads the log."""
+        name = name or f"lspcheck {words[0]}"
         with held():
-            self.runs.append(Run(self.program, words, self.progress))
+            self.runs.append(Run(program or self.program, words, self.progress, name))
         return self.runs[-1]

@@ -171,7 +171,8 @@ function onCopy(event) {
 
 document.title = `${verdictOf()[1]} – ${namedText(session.name ?? "standard input")}`;
 document.getElementById("overview").append(...[
-  verdictPart(), cutPart(), badLogPart(), firstViolation(), otherViolations(), notesPart(),
+  verdictPart(), cutPart(), smallestPart(), badLogPart(), firstViolation(), otherViolations(),
+  notesPart(),
   documentsPart((number) => search.filter(number)),
 ].filter(Boolean));
 document.getElementById("bar").append(bar());

@@ -37,6 +37,13 @@ function shortDifference() {
     ...(more > 0 ? [`and ${count(more, "more line")}`] : [])];
 }
 
+function smallestSession() {
+  const lines = smallestLines();
+  return lines.length === 0 ? [] : ["",
+    "The editor's messages of the smallest session that shows this, for `clangd -lit-test`:", "",
+    ...markdownBlock("", lines)];
+}
+
 function markdown() {
   const [, word, text] = verdictOf();
   const names = [editorName ?? "an editor", serverName ?? "a server"];
@@ -47,7 +54,7 @@ function markdown() {
       `Log ${markdownCode(namedText(session.name ?? "standard input"))}, ` +
       `${count(session.events, "event")}.`, "",
     ...markdownBlock("", session.report.map(namedText)),
-    ...shortDifference(), "",
+    ...shortDifference(), ...smallestSession(), "",
     `Written by ${markdownCode(session.version)} and lspcheck-page.`, "",
   ].join("\n");
 }

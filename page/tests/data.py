@@ -11,6 +11,7 @@ import logs
 from command import TOP, run
 
 EXAMPLES = sorted((TOP / "examples").glob("*.log"))
+WRONG = TOP / "examples/wrong-column.log"
 NO = re.compile(r"no (\d+) (\w+) (\d+) event (\d+)( follows)?")
 
 
@@ -27,6 +28,11 @@ def page_of(program, log, *words):
     done = run(log, "--program", program, "-o", "-", *words)
     assert done.returncode == 0, done.stderr
     return done.stdout
+
+
+def smallest_of(program, log):
+    """What `recorders/shrink --lit` writes."""
+    return output(TOP / "recorders/shrink", "--lit", "--quiet", "--program", program, log).decode(errors="replace")
 
 
 def written(place, name, log):
@@ -182,6 +188,31 @@ def shows_how_the_server_ended(program, place):
     assert logs.data_of(page_of(program, log))[0]["exit"] == []
 
 
+def has_the_smallest_session(program, place):
+    """--small: the editor's messages of the smallest session that shows the violation."""
+    frames = written(place, "frames.log", WRONG.read_bytes().replace(b"Content-Length: ", b"Content-Length; ", 1))
+    damaged = written(place, "damaged.log", WRONG.read_bytes()[:9000])
+    for log in [*EXAMPLES, frames, damaged]:
+        index, _ = logs.data_of(page_of(program, log, "--small"))
+        wanted = smallest_of(program, log)
+        assert (index["smallest"] or "") == wanted, (log, index["smallest"], wanted)
+        rule = re.match(r"no ([2-7]\d\d) ", index["report"][0])
+        assert (index["smallest"] is not None) == (rule is not None), (log, index["report"])
+        assert rule is None or index["smallest"].count("\n---\n") < index["events"], log
+    assert logs.data_of(page_of(program, WRONG))[0]["smallest"] is None
+
+
+def shows_no_words_of_a_redacted_log(program, place):
+    """A page of what `lspcheck redact` writes has no words of the sources, whole or small."""
+    words = ["include", "stdio", "ASCII", "struct", "printf", "strlen", "lspwork", "Emacs"]
+    redacted = written(place, "redacted.log", output(program, "redact", WRONG))
+    for options in ([], ["--small"]):
+        for log, wanted in ((WRONG, words), (redacted, [])):
+            data = " ".join(logs.blocks_of(page_of(program, log, *options)).values())
+            found = [it for it in words if it in data]
+            assert found == wanted or options and len(found) > 1 and wanted, (log, options, found)
+
+
 TESTS = [
     has_what_was_written,
     has_both_texts,
@@ -190,4 +221,6 @@ TESTS = [
     cuts_long_logs,
     shows_bad_logs,
     shows_how_the_server_ended,
+    has_the_smallest_session,
+    shows_no_words_of_a_redacted_log,
 ]

@@ -12,7 +12,7 @@ from selenium.webdriver.common.keys import Keys
 import logs
 import programs
 import truth
-from data import EXAMPLES, lines_of, output, written
+from data import EXAMPLES, lines_of, output, smallest_of, written
 from processes import SECONDS
 
 FOCUS = "return document.activeElement.getAttribute('aria-label') || document.activeElement.tagName"
@@ -238,13 +238,31 @@ def copies_what_is_there(page):
     assert copied == wanted, (copied, wanted)
 
 
-def copies_markdown(page, log, program):
-    """What one pastes into an issue has the verdict, the report, the difference and versions."""
+def copied_markdown(page):
+    """What the button puts on the clipboard."""
     page.open()
     page.driver.execute_cdp_cmd("Browser.grantPermissions", {"permissions": ["clipboardReadWrite", "clipboardSanitizedWrite"]})
     page.all("button.copy")[0].click()
     page.wait("return document.querySelector('button.copy').innerText === 'copied'")
-    text = page.driver.execute_async_script("navigator.clipboard.readText().then(arguments[0], (e) => arguments[0](String(e)))")
+    return page.driver.execute_async_script("navigator.clipboard.readText().then(arguments[0], (e) => arguments[0](String(e)))")
+
+
+def has_the_smallest_session(page, log, program):
+    """--small: what `recorders/shrink --lit` writes is on the page, and is copied as Markdown."""
+    wanted = smallest_of(program, log).removesuffix("\n")
+    assert wanted.count("\n---\n") == 3, wanted
+    assert f"\n```\n{wanted}\n```\n" in copied_markdown(page), wanted
+    page.run("document.querySelector('.smallest .folded').open = true")
+    page.wait("return document.querySelector('.smallest pre')")
+    assert page.text(".smallest summary") == "4 messages", page.text(".smallest summary")
+    shown = page.run("return document.querySelector('.smallest pre').textContent")
+    assert shown == wanted, (shown, wanted)
+
+
+def copies_markdown(page, log, program):
+    """What one pastes into an issue has the verdict, the report, the difference and versions."""
+    text = copied_markdown(page)
+    assert "clangd -lit-test" not in text, text
     report = lines_of(program, "explain", log)
     assert report[1] in text.split("\n")[0] and f"rule {report[0].split()[1]}" in text.split("\n")[0], text
     assert "\n".join(report) in text, text
@@ -383,6 +401,7 @@ def tests_of(window, program, place):
         yield test.__name__, lambda test=test: test(page_of_differs, differs, program)
     small = window(differs, "--small")
     yield "gives_away_little", lambda: gives_away_little(small, program, differs)
+    yield "has_the_smallest_session small", lambda: has_the_smallest_session(small, differs, program)
     long = written(place, "a long.log", logs.long(4000, difference=3001, lines=40))
     page_of_long = window(long)
     yield "says_what_is_not_printed", lambda: says_what_is_not_printed(page_of_long, 4000)

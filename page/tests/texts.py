@@ -6,7 +6,7 @@ import subprocess
 from pathlib import Path
 
 import logs
-from data import EXAMPLES, output, page_of, written
+from data import EXAMPLES, output, page_of, smallest_of, written
 from processes import SECONDS
 
 HERE = Path(__file__).resolve().parent
@@ -44,6 +44,28 @@ def texts_after_a_gap(program, place):
     assert len(known) > 30 and all(it["text"] == whole[it["event"]] for it in known)
 
 
+def value_of(line):
+    """The JSON value of a line, or None."""
+    try:
+        return json.loads(line)
+    except ValueError:
+        return None
+
+
+def smallest_sessions_mean_the_same(program, place):
+    """The same lines, with JSON of the same values, but no character that cannot be seen."""
+    for name, log in logs.evil().items():
+        log = written(place, f"{name}.log", log)
+        wanted = smallest_of(program, log).split("\n")[:-1]
+        found = node("smallest.js", logs.blocks_of(page_of(program, log, "--small")))
+        assert found["odd"] == [], (name, found)
+        assert len(found["lines"]) == len(wanted), (name, found)
+        for line, own in zip(found["lines"], wanted):
+            assert value_of(line) == value_of(own), (name, line)
+            assert [line[:1] == "#", line == "---"] == [own[:1] == "#", own == "---"], (name, line)
+    assert smallest_of(program, place / "encodings.log"), "an evil log has no smallest session"
+
+
 def differences_lead_from_one_text_to_the_other(program, place):
     assert node("differences.js", None) == "good"
 
@@ -61,4 +83,10 @@ def has_words_for_each_form(program, place):
     assert set(found["notes"]) == {it["note"]["const"] for it in forms if "note" in it}, found["notes"]
 
 
-TESTS = [has_words_for_each_form, texts_are_those_of_lspcheck, texts_after_a_gap, differences_lead_from_one_text_to_the_other]
+TESTS = [
+    has_words_for_each_form,
+    texts_are_those_of_lspcheck,
+    texts_after_a_gap,
+    smallest_sessions_mean_the_same,
+    differences_lead_from_one_text_to_the_other,
+]

@@ -1,5 +1,5 @@
 """The pages for users: each example is run, and its output is compared with the page. So are the
-recorder that LOG_FORMAT shows, and the script for CI of IN_A_TEST_SUITE."""
+recorder that LOG_FORMAT shows, the script for CI of IN_A_TEST_SUITE, and what README has for a clone."""
 
 import os
 import re
@@ -48,7 +48,7 @@ REPORTED = {
 
 # The status that belongs to the first line of a report, or of what is written instead of one.
 STATUSES = [
-    (r"no \d|.*\nno \d", 1),
+    (r'no \d|.*\nno \d|\{"is":"no",', 1),
     (r"bad log |(.*\n)*fault ", 2),
     (r"((.+: |\{).*\n)*lspcheck: (read|write) fault", 3),
     (r"no such document|no content|no texts |fewer ", 5),
@@ -85,6 +85,17 @@ def try_pages(trial):
             trial.note(f"{name}: {command}", good, got)
             shown += 1
         trial.note(f"{name} has examples", shown > 0)
+
+
+def try_fresh_clone(trial):
+    """The first command of README that needs neither the kit nor the program: a reader meets it within
+    forty lines, and it needs no variable but PATH."""
+    lines = (TOP / "README.md").read_text().splitlines()
+    at = next((number for number, line in enumerate(lines, 1) if line.startswith("$ recorders/")), 0)
+    trial.note("README: a command for a fresh clone within forty lines", 0 < at <= 40, at)
+    search = {"PATH": os.environ["PATH"]}
+    run = subprocess.run(["sh", "-c", lines[at - 1][2:]], cwd=TOP, env=search, capture_output=True, timeout=SECONDS)
+    trial.note("README: a command for a fresh clone", run.stdout.decode() == f"{lines[at]}\n", run)
 
 
 def shown_after(page, mark):

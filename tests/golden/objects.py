@@ -90,7 +90,7 @@ def pattern_of(form):
 def lines_of(written):
     """The lines that these objects stand for, and what is wrong with them."""
     known = forms()
-    for line in written.splitlines():
+    for line in filter(None, written.split("\n")):
         try:
             members = json.loads(line)
         except ValueError as fault:

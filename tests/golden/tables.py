@@ -330,7 +330,7 @@ def lines_of(page):
 def explained(outputs):
     """The rules and the kinds of lines that these explanations have."""
     found = set()
-    for line in b"\n".join(outputs).decode().splitlines():
+    for line in filter(None, b"\n".join(outputs).decode().split("\n")):
         word, *rest = line.split(" ")
         found |= {rest[0]} if word == "no" else {rest[1]} if line.startswith("bad log ") else {word}
         found |= {f"{word} whole"} if rest[1:] == ["whole"] else set()

@@ -7,7 +7,7 @@ use Rattle.std.specs.Option.{option_or}
 use Rattle.std.specs.Str.{chars}
 use Rattle.std.proofs.Common.{◌≡◌, ◌<◌, ◌+◌, ℕ, Bool, true, false, List, [], ◌∷◌, ◌++◌, Option, Some}
 use Rattle.std.proofs.Common.{None, refl, sym, ap, ◌∙◌, append-nil, append_assoc, arith}
-use Rattle.std.proofs.Common.{cond, drop, length, suc, take}
+use Rattle.std.proofs.Common.{cond, drop, length, suc, take, zero}
 use Rattle.std.proofs.lemmas.Bool.Decides.{nat_tests}
 use Rattle.std.proofs.lemmas.List.{drop-map, drop_more, map-append, take-append-drop, take-map}
 use Rattle.std.proofs.lemmas.List.Elements.{filter-append, filter_map-append}
@@ -217,7 +217,7 @@ module _ (kept : List Version) (v : Option Version) (number : ℤ) (lent : Optio
 pub get_or_any : (ns : List ℤ) (i : ℕ) (d : ℤ) → i < length ns
     → get_or ns i d ≡ get_or ns i (get_or ns i d)
 get_or_any [] i d lt = absurd (omega arith)
-get_or_any (n ∷ ns) 0 d lt = refl
+get_or_any (n ∷ ns) zero d lt = refl
 get_or_any (n ∷ ns) (suc i) d lt = get_or_any ns i d (omega arith)
 
 -- the text at one more number

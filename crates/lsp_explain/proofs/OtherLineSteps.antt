@@ -1,6 +1,7 @@
 -- What changes make where lines end otherwise, as the code makes it.
 use Rattle.std.specs.Prelude.{ℕ, ◌<◌, ◌+◌, length, option_and_then, option_to_list, String}
-use Rattle.std.specs.Prelude.{string_bytes}
+use Rattle.std.specs.Prelude.{◌||◌, string_bytes}
+use Rattle.std.specs.List.{list_any}
 use Rattle.std.specs.Global.{Global}
 use Rattle.std.specs.Char.{encode_utf8}
 use Rattle.std.specs.Str.{IsUtf8, chars}
@@ -9,11 +10,13 @@ use Rattle.std.proofs.Common.{◌∙◌, append-nil, append_assoc, drop, get_or,
 use Rattle.std.proofs.lemmas.Str.{IsUtf8-string_bytes, chars_from_encodes, encodes-append}
 use Rattle.std.proofs.lemmas.Str.{encodes-chars}
 use Rattle.lsp_types.specs.declared.position.Encoding.{Encoding}
-use Rattle.lsp_text.specs.Changes.{edits_of}
+use Rattle.lsp_text.specs.Changes.{edit_of, edits_of}
 use Rattle.lsp_text.specs.Edits.{Edit, splice}
 use Rattle.lsp_text.specs.Lines.{is_feed}
+use Rattle.lsp_docs.proofs.Words.{any-map}
 use Rattle.lsp_explain.specs.Fits.{suspects_view}
-use Rattle.lsp_explain.specs.OtherLines.{changed_by, edits_in, made_so, seen, seen_as, seen_of}
+use Rattle.lsp_explain.specs.OtherLines.{changed_by, edits_in, has_other, inserts_other, made_so}
+use Rattle.lsp_explain.specs.OtherLines.{seen, seen_as, seen_of}
 use Rattle.lsp_explain.specs.declared.fits.Suspect.{Suspect}
 use Rattle.lsp_explain.specs.declared.other_lines.LinesBy.{LinesBy}
 use Rattle.lsp_explain.proofs.Fitting.{suspects_from}
@@ -48,6 +51,17 @@ made_on by enc t suspects i s all next lt is so made =
     so ∙ ap (λ l. made_so by enc t (edits_in l)) (suspects_from suspects i s lt is)
     ∙ made_so-append by enc t (edits_of s.changes.now) more
     ∙ ap (option_and_then (λ u. made_so by enc u more)) (sym made)
+
+-- ---- texts that are inserted
+
+-- the changes of messages, as they are held
+pub any_inserts : (by : LinesBy) (suspects : List Suspect)
+    → list_any (λ (s : Suspect). list_any (λ c. has_other by (edit_of c).text) s.changes.now)
+    suspects ≡ list_any (inserts_other by) (suspects_view suspects)
+any_inserts by [] = refl
+any_inserts by (s ∷ more) =
+    let own = sym (any-map (λ (e : Edit). has_other by e.text) edit_of s.changes.now) in
+    (λ i. own i || any_inserts by more i)
 
 -- ---- a text that is seen, of which the last character read is not yet written
 

@@ -2,7 +2,7 @@
 use Rattle.std.specs.Prelude.{ℕ, ◌+◌, ◌==◌, ◌&&◌, ◌||◌, nat_lt, not, Bool, List, []}
 use Rattle.std.specs.Prelude.{◌∷◌, codes, is_some, length, if◌then◌else◌, Option, Some, None}
 use Rattle.std.specs.Prelude.{option_and_then, option_map, option_to_list}
-use Rattle.std.specs.List.{find, flat_map}
+use Rattle.std.specs.List.{find, flat_map, list_any}
 use Rattle.std.specs.Str.{chars}
 use Rattle.lsp_types.specs.declared.position.Encoding.{Encoding}
 use Rattle.lsp_types.specs.declared.position.Position.{Position}
@@ -23,9 +23,13 @@ use Rattle.lsp_explain.specs.declared.other_lines.LinesBy.TheVariants.{EcmaScrip
 
 -- ---- which characters end a line
 
--- a CR that LF does not follow, U+2028 and U+2029
+-- U+2028 and U+2029
+abbrev pub is_separator : ℕ → Bool
+is_separator c = c == 0x2028 || c == 0x2029
+
+-- these, and a CR that LF does not follow
 abbrev pub is_end : Bool → ℕ → Bool
-is_end before_feed c = is_return c && not before_feed || (c == 0x2028 || c == 0x2029)
+is_end before_feed c = is_return c && not before_feed || is_separator c
 
 -- VT, FF, FS, GS, RS and NEL
 abbrev pub is_break : ℕ → Bool
@@ -43,6 +47,24 @@ seen_as Python before_feed c = if is_end before_feed c || is_break c then 10 els
 abbrev pub seen : LinesBy → Text → Text
 seen by [] = []
 seen by (c ∷ more) = seen_as by (starts_with_feed more) c ∷ seen by more
+
+-- ---- whether the lines can be others than those of LSP
+
+-- a character that may end a line of these, or of LSP, alone
+abbrev pub is_other : LinesBy → ℕ → Bool
+is_other Lf c = is_return c
+is_other EcmaScript c = is_separator c
+is_other Python c = is_separator c || is_break c
+
+abbrev pub has_other : LinesBy → Text → Bool
+has_other by t = list_any (is_other by) t
+
+abbrev pub inserts_other : LinesBy → SentEdits → Bool
+inserts_other by s = list_any (λ (e : Edit). has_other by e.text) s.edits
+
+-- there is one in the text, or in one that messages insert
+abbrev pub may_differ : LinesBy → Text → List SentEdits → Bool
+may_differ by t sent = has_other by t || list_any (inserts_other by) sent
 
 -- ---- what changes make
 
@@ -81,7 +103,7 @@ edits_in sent = flat_map (λ (s : SentEdits). s.edits) sent
 
 abbrev pub gives_so : Terms → Encoding → Text → List SentEdits → Text → LinesBy → Bool
 gives_so terms enc t sent other by =
-    is_made terms.line_ends other (made_so by enc t (edits_in sent))
+    may_differ by t sent && is_made terms.line_ends other (made_so by enc t (edits_in sent))
 
 abbrev pub most_tried : ℕ
 most_tried = 256

@@ -1,7 +1,7 @@
 //! With which other line ends the suspects make the text that the editor had.
 ghost use Rattle.std.specs.Prelude.{◌≡◌, ◌++◌, false, IfOk, OnOk, is_some, length, nat_lt};
 ghost use Rattle.std.specs.Prelude.{if◌then◌else◌, option_map, string_bytes};
-ghost use Rattle.std.specs.List.{find};
+ghost use Rattle.std.specs.List.{find, list_any};
 ghost use Rattle.std.specs.Str.{chars};
 ghost use Rattle.lsp_text.specs.Changes.{edit_of, edits_of};
 ghost use Rattle.lsp_text.specs.Edits.{splice};
@@ -98,11 +98,58 @@ fn gives_by(trial: Trial<'_>, by: LinesBy, suspects: &[Suspect<'_>]) -> Result<b
 {
     let alloc = trial.docs.alloc();
     let text = trial.text.to_text(alloc)?;
+    if !may_differ(by, text.as_str(), suspects) {
+        return Ok(false);
+    }
     let Some(made) = make_all(alloc, by, trial.encoding, text, suspects)? else {
         return Ok(false);
     };
     let store = Plain::from_text(alloc, made.as_str())?;
     Ok(has_text(trial.docs.line_ends(), &store, trial.other))
+}
+
+/// Whether a text, or one that the suspects insert, has a character that may end a line of these
+/// alone, or of LSP alone.
+fn may_differ(by: LinesBy, text: &str, suspects: &[Suspect<'_>]) -> bool
+    ensures { result ≡ spec.may_differ by (chars text.now) (suspects_view suspects.now) }
+{
+    if has_other(by, text) {
+        return true;
+    }
+    any_inserts_other(by, suspects)
+}
+
+fn any_inserts_other(by: LinesBy, suspects: &[Suspect<'_>]) -> bool
+    ensures { result ≡ list_any (λ suspect. list_any (λ change. spec.has_other by
+        (edit_of change).text) suspect.changes.now) suspects.now }
+{
+    suspects
+        .iter()
+        .any(|suspect| inserts_other(by, suspect.changes))
+}
+
+fn inserts_other(by: LinesBy, changes: &[Change]) -> bool
+    ensures { result ≡ list_any (λ change. spec.has_other by (edit_of change).text) changes.now }
+{
+    changes
+        .iter()
+        .any(|change| has_other(by, change.text.as_str()))
+}
+
+fn has_other(by: LinesBy, text: &str) -> bool
+    ensures { result ≡ spec.has_other by (chars text.now) }
+{
+    text.chars().any(|char| is_other(by, char))
+}
+
+fn is_other(by: LinesBy, char: char) -> bool
+    ensures { result ≡ spec.is_other by char }
+{
+    match by {
+        LinesBy::Lf => char == '\r',
+        LinesBy::EcmaScript => is_separator(char),
+        LinesBy::Python => is_separator(char) || is_break(char),
+    }
 }
 
 /// The text that the changes of messages make, if all can be made.
@@ -230,7 +277,13 @@ fn with_feed(ends: bool, char: char) -> char
 fn is_end(before_feed: bool, char: char) -> bool
     ensures { result ≡ spec.is_end before_feed char }
 {
-    (char == '\r' && !before_feed) || (char == '\u{2028}' || char == '\u{2029}')
+    (char == '\r' && !before_feed) || is_separator(char)
+}
+
+fn is_separator(char: char) -> bool
+    ensures { result ≡ spec.is_separator char }
+{
+    char == '\u{2028}' || char == '\u{2029}'
 }
 
 /// Whether it ends a line in Python alone.

@@ -1,7 +1,7 @@
 //! From which snapshot on the suspects make the text that the editor had.
-ghost use Rattle.std.specs.Prelude.{◌≡◌, ◌++◌, IfOk, OnOk, option_map};
+ghost use Rattle.std.specs.Prelude.{◌≡◌, ◌++◌, ◌∷◌, [], IfOk, OnOk, option_map};
 ghost use Rattle.lsp_explain.specs.Bases.{later};
-ghost use Rattle.lsp_explain.specs.Fits.{suspects_view};
+ghost use Rattle.lsp_explain.specs.Fits.{suspect_view, suspects_view};
 ghost use Rattle.lsp_explain.specs.RightFrom as spec;
 ghost use Rattle.lsp_explain.specs.Uncompared.{shown_view};
 
@@ -43,7 +43,7 @@ fn is_right_from(trial: Trial<'_>, suspects: &[Suspect<'_>], shown: &ShownText) 
         other,
         ..
     } = trial;
-    let after = later_ones(docs.alloc(), suspects, shown.version)?;
+    let after = later_ones(docs.alloc(), suspects, shown)?;
     if after.is_empty() {
         return Ok(false);
     }
@@ -58,16 +58,33 @@ fn is_right_from(trial: Trial<'_>, suspects: &[Suspect<'_>], shown: &ShownText) 
     gives(trial, encoding, after.as_slice())
 }
 
-/// The suspects that set a version after this one.
-fn later_ones<'a>(alloc: Global, suspects: &[Suspect<'a>], version: i32) -> Result<Vec<Suspect<'a>>>
+/// The suspects that set a version after that of a snapshot.
+fn later_ones<'a>(
+    alloc: Global,
+    suspects: &[Suspect<'a>],
+    shown: &ShownText,
+) -> Result<Vec<Suspect<'a>>>
     ensures { IfOk result (λ all. suspects_view all.items
-        ≡ later version (suspects_view suspects.now)) }
+        ≡ later shown.now.version (suspects_view suspects.now)) }
 {
     let mut after = Vec::new(alloc);
     for suspect in suspects {
-        if version < suspect.version {
-            after.push(*suspect)?;
-        }
+        push_if_later(&mut after, *suspect, shown)?;
     }
     Ok(after)
+}
+
+/// Adds a suspect, if it is one of them.
+fn push_if_later<'a>(
+    after: &mut Vec<Suspect<'a>>,
+    suspect: Suspect<'a>,
+    shown: &ShownText,
+) -> Result<()>
+    ensures { OnOk result (suspects_view after.new.items ≡ suspects_view after.old.items
+        ++ later shown.now.version (suspect_view suspect.entry ∷ [])) }
+{
+    if shown.version < suspect.version {
+        after.push(suspect)?;
+    }
+    Ok(())
 }

@@ -1,11 +1,12 @@
 //! Explains the verdict on a log.
-ghost use Rattle.std.specs.Prelude.{◌≡◌, ◌++◌, ◌<◌, ◌^◌, [], List, None, IfOk, length, string_bytes};
-ghost use Rattle.std.specs.Prelude.{map, take};
+ghost use Rattle.std.specs.Prelude.{◌≡◌, ◌++◌, ◌∷◌, ◌<◌, ◌^◌, [], List, None, IfOk, length, map};
+ghost use Rattle.std.specs.Prelude.{string_bytes, take};
 ghost use Rattle.lsp_docs.specs.Documents.{Terms};
 ghost use Rattle.lsp_replay.specs.LogEvents.{flaw_of};
 ghost use Rattle.lsp_json_run.specs.JsonRun.{run_in};
 ghost use Rattle.lsp_replay.specs.Run.{PassesOn};
-ghost use Rattle.lsp_replay.specs.Telling.{Stood};
+ghost use Rattle.lsp_replay.specs.Telling.{IsSeen, Says, ShowsFault, Stood};
+ghost use Rattle.lsp_replay.specs.declared.seen.Fate.TheVariants.{Offends};
 ghost use Rattle.lsp_survey.specs.SessionEnds.{ends_held};
 ghost use Rattle.lsp_verdict.specs.Given.{verdict_view};
 ghost use Rattle.lsp_verdict.specs.Heard.{Heard, heard_events};
@@ -21,6 +22,7 @@ ghost use Rattle.lsp_explain.specs.Trails.{IsTrail};
 use crate::notes::{MessageNotes, Misfits, push_notes};
 use crate::offence_facts::{push_end, push_flaw, push_offence};
 use crate::trail::{Past, Trail};
+use lsp_docs::Tried;
 use lsp_frame::{Limits, Sink, Source};
 use lsp_json_run::{Form, pass_in};
 use lsp_replay::{Account, End, Events, Fate, Flow, LogEvents, Seen, last_offence};
@@ -78,6 +80,41 @@ impl FirstOffence {
             messages: MessageNotes::new(alloc),
         }
     }
+
+    /// Explains the next event, which breaks this rule and of which this was tried, and adds the
+    /// notes on the events before it.
+    ///
+    /// Apart from `event`, which is inlined where events are heard: a function that has grown too
+    /// long is not.
+    #[cold]
+    #[inline(never)]
+    fn explain(
+        &mut self,
+        held: &Events<Lined>,
+        seen: &Seen<'_>,
+        rule: u16,
+        tried: Option<&Tried<Lined>>,
+        text: &mut String,
+    ) -> Result<Flow>
+        ensures asked { self.new.completeness ≡ self.old.completeness }
+        ensures says { IfOk result (λ flow. (terms : Terms) (before : List Heard) (h : Heard)
+            → FirstStands self.old terms before
+            → IsSeen held.now.session held.now.docs held.now.counts seen.now terms before h
+            → seen.now.fate ≡ Offends rule tried.entry
+            → Says (explain_run self.old.completeness) terms before h (ShowsFault seen.now.raw)
+            (string_bytes text.old) (string_bytes text.new)
+            (FirstStands self.new terms (before ++ h ∷ [])) flow) }
+    {
+        let trail = &self.trail;
+        let past = Past { held, trail };
+        let offence = last_offence(&held.counts, seen.raw, rule, false);
+        let verdict = offence.verdict();
+        push_offence(text, past, &offence, seen, tried)?;
+        self.misfits.note_refuted(held, seen, rule)?;
+        push_notes(text, past, &self.misfits, &self.messages, &verdict)?;
+        let boxed = Box::new(*text.allocator(), Outcome::Judged(verdict))?;
+        Ok(Flow::Stop(boxed))
+    }
 }
 
 impl Account for FirstOffence {
@@ -97,15 +134,7 @@ impl Account for FirstOffence {
             self.misfits.note_kept(held, seen)?;
             return Ok(Flow::GoOn);
         };
-        let trail = &self.trail;
-        let past = Past { held, trail };
-        let offence = last_offence(&held.counts, seen.raw, rule, false);
-        let verdict = offence.verdict();
-        push_offence(text, past, &offence, seen, tried)?;
-        self.misfits.note_refuted(held, seen, rule)?;
-        push_notes(text, past, &self.misfits, &self.messages, &verdict)?;
-        let boxed = Box::new(*text.allocator(), Outcome::Judged(verdict))?;
-        Ok(Flow::Stop(boxed))
+        self.explain(held, seen, rule, tried, text)
     }
 
     fn end(

@@ -62,10 +62,10 @@ redacted_keeps_verdict limits sizes log out outcome v whole on redacted room =
     elim redacted.is [
       | inl stop ↦ no_kept limits sizes log out outcome redacted.format redacted.records redacted.tail
           (most_of limits) redacted.heard redacted.told v whole on stop full chunks room.log
-          room.content
+          room.contents
       | inr ends ↦ yes_kept limits sizes log out outcome redacted.format redacted.records
           redacted.heard redacted.tail redacted.told (most_of limits) v whole on ends full chunks
-          room.log room.content
+          room.log room.contents
     ]
 
 -- ---- what stands for a content that is refused

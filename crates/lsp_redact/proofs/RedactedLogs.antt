@@ -1,10 +1,10 @@
 -- A log that is written of events has the verdict on them, up to names.
 use Rattle.std.proofs.Common.{◌≡◌, ℕ, ℤ, ◌+◌, ◌*◌, ◌≤◌, List, [], ◌∷◌, ◌++◌, length, map, Option, Some, None, true}
-use Rattle.std.proofs.Common.{IsUtf8, refl, sym, ap, subst, ◌∙◌, arith}
+use Rattle.std.proofs.Common.{IsUtf8, refl, sym, ap, subst, ◌∙◌}
 use Rattle.std.specs.Prelude.{encode_utf8_all}
 use Rattle.std.specs.List.{AllByRecursion, AllZip, flat_map}
 use Rattle.std.specs.Option.{option_or}
-use Rattle.std.proofs.lemmas.List.{length-append, map-append}
+use Rattle.std.proofs.lemmas.List.{map-append}
 use Rattle.lsp_docs.specs.Documents.{terms_of}
 use Rattle.lsp_extract.proofs.Forming.Again.{IsSane}
 use Rattle.lsp_frame.specs.Bounds.{Bounds, IsInRange}
@@ -21,7 +21,7 @@ use Rattle.lsp_verdict.proofs.LookBackLemmas.{first_of-append}
 use Rattle.lsp_redact.specs.Characters.{shown_text}
 use Rattle.lsp_redact.specs.Kept as kept
 use Rattle.lsp_redact.specs.Kept.{Kept, kept_in, kept_of}
-use Rattle.lsp_redact.specs.Laws.{shown_summary}
+use Rattle.lsp_redact.specs.Laws.{HasShortContents, shown_summary}
 use Rattle.lsp_redact.specs.Names.{Names, names_of, shown_uri}
 use Rattle.lsp_redact.specs.Records.{records_of}
 use Rattle.lsp_redact.specs.Redacting.{apart_at}
@@ -36,24 +36,9 @@ use Rattle.lsp_redact.proofs.ShownSessions.{AllAmong, AreSound, clean_shown, rea
 use Rattle.lsp_redact.proofs.ShownSessions.{summary_shown}
 use Rattle.lsp_redact.proofs.ShownSnapshots.{snapshot_fits}
 use Rattle.lsp_redact.proofs.SummaryNames.{summary_named}
-use Rattle.lsp_redact.proofs.WithinDues.{IsShort, IsSpoken, dues_short}
-use Rattle.lsp_redact.proofs.WrittenLogs.{Due, IsWithin, all_records, raw_of, shows, speaks}
+use Rattle.lsp_redact.proofs.WithinDues.{IsFit, IsSpoken, all_within}
+use Rattle.lsp_redact.proofs.WrittenLogs.{Due, IsWithin, all_records, raw_of, speaks}
 use Rattle.lsp_redact.proofs.WrittenVerdicts.{no_written, yes_written}
-
--- a snapshot that is due fits into a record
-abbrev pub IsFit : Bounds → Due → Type 0
-IsFit limits (speaks side bytes) = Unit {0}
-IsFit limits (shows number uri text) = Fits limits (shown number uri text)
-
-all_within : (limits : Bounds) (n : ℕ) (dues : List Due) → n ≤ limits.content
-    → AllByRecursion (IsShort n) dues → AllByRecursion (IsFit limits) dues
-    → AllByRecursion (IsWithin limits) dues
-all_within limits n [] room short fit = tt
-all_within limits n (speaks side bytes ∷ dues) room short fit =
-    let le : length bytes ≤ limits.content = omega (arith, short.0.1, room) in
-    ((short.0.0, le), all_within limits n dues room short.1 fit.1)
-all_within limits n (shows number uri text ∷ dues) room short fit =
-    (fit.0, all_within limits n dues room short.1 fit.1)
 
 -- ---- one more
 
@@ -138,7 +123,7 @@ module _ (limits : Bounds) (sizes : IsInRange limits) (names : Names) (few : Are
 
   module _ (out : List ℕ) (format : Format) (most : ℕ) (full : 1 ≤ most)
       (chunks : 4 * most ≤ limits.chunk) (short : length out ≤ limits.log)
-      (room : length out ≤ limits.content) where
+      (room : HasShortContents limits most out) where
     -- it is written of what is kept
     abbrev pub IsWrittenOf : List Kept → Type 0
     IsWrittenOf ks = out
@@ -154,12 +139,7 @@ module _ (limits : Bounds) (sizes : IsInRange limits) (names : Names) (few : Are
     due_within : (ds : List Due) → AllByRecursion IsSpoken ds → AllByRecursion (IsFit limits) ds
         → out ≡ first_line format ++ flat_map spelling (all_records most ds)
         → AllByRecursion (IsWithin limits) ds
-    due_within ds said fit is =
-        let text : List ℕ = flat_map spelling (all_records most ds) in
-        let whole : length out ≡ length (first_line format) + length text =
-        ap length is ∙ length-append (first_line format) text in
-        all_within limits (length out) ds room
-        (dues_short most (length out) ds full said (omega (arith, whole))) fit
+    due_within ds said fit is = all_within limits most out room (first_line format) ds is said fit
 
     kept_within : (ks : List Kept) → IsWrittenOf ks → AreRead names apart ks → AreFit ks
         → AllByRecursion (IsWithin limits) (dues ks)

@@ -25,7 +25,7 @@ use Rattle.lsp_verdict.specs.Verdict.{Verdict, bad_log_of, first_no, rest_of, su
 use Rattle.lsp_verdict.specs.declared.outcome.Outcome.{Outcome}
 use Rattle.lsp_verdict.proofs.Logs.{one_verdict}
 use Rattle.lsp_redact.specs.Kept.{kept_in}
-use Rattle.lsp_redact.specs.Laws.{shown_verdict}
+use Rattle.lsp_redact.specs.Laws.{HasShortContents, shown_verdict}
 use Rattle.lsp_redact.specs.Names.{Names, names_in}
 use Rattle.lsp_redact.specs.Records.{records_of}
 use Rattle.lsp_redact.specs.Redacting.{SaysOf, log_by, redact_run}
@@ -124,7 +124,7 @@ module _ (limits : Bounds) (sizes : IsInRange limits) (log out : List ℕ) (outc
   -- **a Yes stays a Yes**
   pub yes_kept : (v : Verdict) → IsVerdict limits log v → IsOnEvents v
       → EndsAfter (redact_run most) terms tail heard out outcome → 1 ≤ most
-      → 4 * most ≤ limits.chunk → length out ≤ limits.log → length out ≤ limits.content
+      → 4 * most ≤ limits.chunk → length out ≤ limits.log → HasShortContents limits most out
       → (names : Names) × IsVerdict limits out (shown_verdict names v)
   yes_kept v whole on ends full chunks short room =
       let said = all_clean most terms tail.rests [] heard ends.front refl ends.said in

@@ -30,7 +30,7 @@ use Rattle.lsp_verdict.proofs.Logs.{one_verdict}
 use Rattle.lsp_verdict.proofs.Offences.Offending.{all_are_kept}
 use Rattle.lsp_verdict.proofs.Verdicts.{no_found}
 use Rattle.lsp_redact.specs.Kept.{Kept, kept_in, kept_of}
-use Rattle.lsp_redact.specs.Laws.{shown_verdict}
+use Rattle.lsp_redact.specs.Laws.{HasShortContents, shown_verdict}
 use Rattle.lsp_redact.specs.Names.{Names, names_in, names_of}
 use Rattle.lsp_redact.specs.Records.{AreBroken, AreRecordsBy, content_records, records_of}
 use Rattle.lsp_redact.specs.Redacting.{IsLogTo, SaysOf, apart_at, log_by, log_of, redact_run}
@@ -81,7 +81,7 @@ same_rule a b h = cc
 
 module _ (limits : Bounds) (sizes : IsInRange limits) (out : List ℕ) (format : Format) (most : ℕ)
     (full : 1 ≤ most) (chunks : 4 * most ≤ limits.chunk) (short : length out ≤ limits.log)
-    (room : length out ≤ limits.content) (raws : List Raw) (es : List Event)
+    (room : HasShortContents limits most out) (raws : List Raw) (es : List Event)
     (reads : AllZip Reads raws es) (sane : AllByRecursion (IsSane limits) raws)
     (clean : first_no (terms_of limits format) es ≡ None) where
   abbrev terms : Terms
@@ -276,7 +276,7 @@ module _ (limits : Bounds) (sizes : IsInRange limits) (log out : List ℕ) (outc
 
     stays : (w : Verdict) → IsVerdict limits log w → IsOnEvents w
         → IsLogTo most log_by_terms es here.raw e rule out → 1 ≤ most → 4 * most ≤ limits.chunk
-        → length out ≤ limits.log → length out ≤ limits.content
+        → length out ≤ limits.log → HasShortContents limits most out
         → (names : Names) × IsVerdict limits out (shown_verdict names w)
     stays w whole on says full chunks short room =
         let same : v ≡ w =
@@ -299,7 +299,7 @@ module _ (limits : Bounds) (sizes : IsInRange limits) (log out : List ℕ) (outc
   pub no_kept : (heard : List Heard) → IsTold limits log format records heard tail → (v : Verdict)
       → IsVerdict limits log v → IsOnEvents v
       → StopsIn (redact_run most) log_by_terms tail.rests heard out outcome → 1 ≤ most
-      → 4 * most ≤ limits.chunk → length out ≤ limits.log → length out ≤ limits.content
+      → 4 * most ≤ limits.chunk → length out ≤ limits.log → HasShortContents limits most out
       → (names : Names) × IsVerdict limits out (shown_verdict names v)
   no_kept heard told v whole on stop full chunks short room =
       let said = all_clean most log_by_terms tail.rests [] stop.first stop.front refl stop.said in

@@ -1,19 +1,22 @@
--- What is written of an event is no longer than the log that is written, and so within the limits.
+-- What is written of an event is no longer than the log that is written, and within the limits.
 use Rattle.std.proofs.Common.{◌≡◌, ℕ, ◌+◌, ◌≤◌, suc, zero, List, [], ◌∷◌, ◌++◌, length, take, drop, IsUtf8}
-use Rattle.std.proofs.Common.{decimal, refl, sym, ap, ◌∙◌, arith}
+use Rattle.std.proofs.Common.{append_assoc, decimal, refl, sym, ap, ◌∙◌, arith}
 use Rattle.std.specs.Prelude.{chars, codes, encode_utf8_all}
 use Rattle.std.specs.List.{AllByRecursion, flat_map}
 use Rattle.std.proofs.lemmas.Grind.{flat_map-append}
 use Rattle.std.proofs.lemmas.List.{length-append, length-drop, take-append-drop}
 use Rattle.std.proofs.lemmas.Str.{IsUtf8-append, encodes-append, encodes-chars}
 use Rattle.json.proofs.Printed.Utf8.{IsUtf8-are_ascii}
+use Rattle.lsp_frame.specs.Bounds.{Bounds}
 use Rattle.lsp_frame.specs.Header.{blank_line}
 use Rattle.lsp_frame.specs.Sink.{canonical}
-use Rattle.lsp_log.specs.Log.{Record, chunk, head_line, head_of, spelling, with_feed}
+use Rattle.lsp_log.specs.Log.{Fits, Record, chunk, head_line, head_of, shown, spelling, with_feed}
 use Rattle.lsp_types.specs.declared.side.Side.{Side}
+use Rattle.lsp_redact.specs.Laws.{HasShortContents}
 use Rattle.lsp_redact.specs.Records.{content_records}
 use Rattle.lsp_redact.proofs.Decimals.{utf8_decimal}
-use Rattle.lsp_redact.proofs.WrittenLogs.{Due, all_records, due_records, parts, parts_some, shows, speaks}
+use Rattle.lsp_redact.proofs.WrittenLogs.{Due, IsWithin, all_records, due_records, parts}
+use Rattle.lsp_redact.proofs.WrittenLogs.{parts_some, shows, speaks}
 
 -- ---- a frame
 
@@ -80,30 +83,32 @@ abbrev pub IsSpoken : Due → Type 0
 IsSpoken (speaks side bytes) = IsUtf8 bytes
 IsSpoken (shows number uri text) = Unit {0}
 
-abbrev pub IsShort : ℕ → Due → Type 0
-IsShort n (speaks side bytes) = IsUtf8 (canonical bytes) × (length bytes ≤ n)
-IsShort n (shows number uri text) = Unit {0}
+-- a snapshot fits into a record
+abbrev pub IsFit : Bounds → Due → Type 0
+IsFit limits (speaks side bytes) = Unit {0}
+IsFit limits (shows number uri text) = Fits limits (shown number uri text)
 
-due_short : (most n : ℕ) (d : Due) → 1 ≤ most → IsSpoken d
-    → length (flat_map spelling (due_records most d)) ≤ n → IsShort n d
-due_short most n (speaks side bytes) full spoken fits =
-    let utf8 : IsUtf8 (canonical bytes) = utf8_canonical bytes spoken in (
-      utf8,
-      (let le : length bytes ≤ n = omega (arith, content_long most side bytes full utf8, fits) in le),
-    )
-due_short most n (shows number uri text) full spoken fits = tt
+module _ (limits : Bounds) (most : ℕ) (out : List ℕ) (room : HasShortContents limits most out) where
+  -- what is due is written between these
+  within_one : (front : List ℕ) (d : Due) (back : List ℕ)
+      → out ≡ front ++ flat_map spelling (due_records most d) ++ back → IsSpoken d → IsFit limits d
+      → IsWithin limits d
+  within_one front (speaks side bytes) back is said fit =
+      (utf8_canonical bytes said, room side bytes (front, back, is))
+  within_one front (shows number uri text) back is said fit = fit
 
--- **of what a log has room for, each has room**
-pub dues_short : (most n : ℕ) (dues : List Due) → 1 ≤ most → AllByRecursion IsSpoken dues
-    → length (flat_map spelling (all_records most dues)) ≤ n → AllByRecursion (IsShort n) dues
-dues_short most n [] full spoken fits = tt
-dues_short most n (d ∷ dues) full spoken fits =
-    let both : length (flat_map spelling (all_records most (d ∷ dues)))
-    ≡ length (flat_map spelling (due_records most d))
-    + length (flat_map spelling (all_records most dues)) =
-    ap length (flat_map-append spelling (due_records most d) (all_records most dues))
-    ∙ length-append (flat_map spelling (due_records most d))
-    (flat_map spelling (all_records most dues)) in (
-      due_short most n d full spoken.0 (omega (arith, both, fits)),
-      dues_short most n dues full spoken.1 (omega (arith, both, fits)),
-    )
+  -- **what has room in a log is within the limits**
+  pub all_within : (front : List ℕ) (dues : List Due)
+      → out ≡ front ++ flat_map spelling (all_records most dues) → AllByRecursion IsSpoken dues
+      → AllByRecursion (IsFit limits) dues → AllByRecursion (IsWithin limits) dues
+  all_within front [] is said fit = tt
+  all_within front (d ∷ dues) is said fit =
+      let own : List ℕ = flat_map spelling (due_records most d) in
+      let later : List ℕ = flat_map spelling (all_records most dues) in
+      let parted : out ≡ front ++ own ++ later =
+      is ∙ ap (λ (t : List ℕ). front ++ t)
+      (flat_map-append spelling (due_records most d) (all_records most dues))
+      ∙ sym (append_assoc front own later) in (
+        within_one front d later parted said.0 fit.0,
+        all_within (front ++ own) dues parted said.1 fit.1,
+      )

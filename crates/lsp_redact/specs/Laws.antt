@@ -1,8 +1,10 @@
 -- Laws of logs with their words replaced.
-use Rattle.std.specs.Prelude.{◌≡◌, ℕ, ◌≤◌, List, length, map, Option, Some, None}
+use Rattle.std.specs.Prelude.{◌≡◌, ℕ, ◌≤◌, List, ◌++◌, length, map, Option, Some, None}
+use Rattle.std.specs.List.{flat_map}
 use Rattle.lsp_extract.specs.Normal.{IsOnEvents}
 use Rattle.lsp_frame.specs.Bounds.{Bounds, IsInRange}
 use Rattle.lsp_replay.specs.RunLaws.{WritesAtItsEnd}
+use Rattle.lsp_log.specs.Log.{spelling}
 use Rattle.lsp_session.specs.Entry.{Entry}
 use Rattle.lsp_text.specs.Edits.{Edit, applied}
 use Rattle.lsp_text.specs.Places.{units}
@@ -15,6 +17,7 @@ use Rattle.lsp_verdict.specs.Verdict.{Document, Summary, Verdict, yes, no, bad_l
 use Rattle.lsp_verdict.specs.declared.outcome.Outcome.{Outcome}
 use Rattle.lsp_redact.specs.Characters.{first_other, kind_of, shown_text}
 use Rattle.lsp_redact.specs.Names.{Names, shown_id, shown_method, shown_uri}
+use Rattle.lsp_redact.specs.Records.{content_records, most_of}
 use Rattle.lsp_redact.specs.Redacted.{IsRedacted}
 use Rattle.lsp_redact.specs.Redacting.{redact_run}
 use Rattle.lsp_redact.specs.ShownEdits.{shown_edit, shown_made}
@@ -61,10 +64,21 @@ OneRedacted = (limits : Bounds) → IsInRange limits → (log out other : List �
 abbrev pub RedactedAtItsEnd : Type 0
 RedactedAtItsEnd = (most : ℕ) → WritesAtItsEnd (redact_run most)
 
--- what is written is no longer than a log or a content may be, and a character fits into a record
+-- a content of a side is in it, in records of so many characters
+abbrev pub HasContent : ℕ → List ℕ → Side → List ℕ → Type 0
+HasContent most out side bytes = (front : List ℕ) × (back : List ℕ)
+    × (out ≡ front ++ flat_map spelling (content_records most side bytes) ++ back)
+
+-- no content in it is longer than one may be
+abbrev pub HasShortContents : Bounds → ℕ → List ℕ → Type 0
+HasShortContents limits most out = (side : Side) (bytes : List ℕ) → HasContent most out side bytes
+    → length bytes ≤ limits.content
+
+-- what is written is no longer than a log may be, and no content in it than a content, and a
+-- character fits into a record
 pub record HasRoom (limits : Bounds) (out : List ℕ) : Type 0 where
   pub log : length out ≤ limits.log
-  pub content : length out ≤ limits.content
+  pub contents : HasShortContents limits (most_of limits) out
   pub record_size : 4 ≤ limits.chunk
 
 -- **It has the verdict of the log, up to names**, where that is on messages and snapshots.

@@ -101,7 +101,7 @@ impl MessageNotes {
         if broken {
             return Ok(());
         }
-        self.server_edits.note_call(held, trail, seen, call)
+        self.server_edits.note_call(held, trail, seen)
     }
 
     /// Notes a message that says nothing of a document.

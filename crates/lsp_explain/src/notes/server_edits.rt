@@ -27,7 +27,7 @@ ghost use Rattle.lsp_rpc.specs.Reading.{Reads};
 ghost use Rattle.lsp_rpc.specs.View.{message_view};
 ghost use Rattle.lsp_text.specs.Changes.{edits_of};
 ghost use Rattle.lsp_types.specs.declared.side.Side.TheVariants.{Server};
-ghost use Rattle.lsp_verdict.specs.Event.{Event};
+ghost use Rattle.lsp_verdict.specs.Event.{Event, call_at};
 ghost use Rattle.lsp_verdict.specs.Given.{raw_view};
 ghost use Rattle.lsp_verdict.specs.Heard.{Heard, heard_events};
 ghost use Rattle.lsp_verdict.specs.Offences.{IsNoted, said_at};
@@ -103,8 +103,10 @@ impl ServerEdits {
         }
     }
 
-    /// Notes the next event, which is kept and says this of a document. The trail is of the events
-    /// before it. Usually no answer came late.
+    /// Notes the next event, which is kept and says something of a document. The trail is of the
+    /// events before it. Usually no answer came late.
+    ///
+    /// It looks again for what the event says: if that were passed on, it would be copied first.
     ///
     /// # Errors
     /// `Memory` where memory was refused; nothing is then known of what is held.
@@ -114,18 +116,21 @@ impl ServerEdits {
         held: &Events<Lined>,
         trail: &Trail,
         seen: &Seen<'_>,
-        call: Call<'_>,
     ) -> Result<()>
         ensures { OnOk result ((terms : Terms) (before : List Heard) (h : Heard)
-            → IsTrail terms trail.now (heard_events before)
+            (call : SpecCall) → IsTrail terms trail.now (heard_events before)
             → AreServerEdits terms self.old (heard_events before)
             → IsSeen held.now.session held.now.docs held.now.counts seen.now terms before h
-            → rule_of terms before h ≡ None → seen.now.call ≡ Some call.entry
+            → rule_of terms before h ≡ None
+            → call_at (kept_before terms before) h.note.event ≡ Some call
             → AreServerEdits terms self.new (heard_events (before ++ h ∷ []))) }
     {
         if self.late.is_empty() {
             return Ok(());
         }
+        let Some(call) = seen.call else {
+            return Ok(());
+        };
         let place = EventPlace::last(&held.counts, seen.raw.who());
         self.note_change(&held.docs, trail, place, call)
     }

@@ -1,7 +1,8 @@
 //! What left a document as it is: which messages set its versions, which equal snapshot has the
 //! greatest version, and which snapshots wait.
-ghost use Rattle.std.specs.Prelude.{◌≡◌, ◌++◌, ◌∷◌, [], None, OnOk, if◌then◌else◌, Bool, ℤ, false};
-ghost use Rattle.std.specs.Prelude.{int_lt, is_some, not, option_map, IfOk};
+ghost use Rattle.std.specs.Prelude.{◌≡◌, ◌++◌, ◌∷◌, [], None, OnOk, Some, if◌then◌else◌, Bool, ℤ};
+ghost use Rattle.std.specs.Prelude.{false, int_lt, is_some, not, option_map, IfOk};
+ghost use Rattle.std.specs.Option.{option_or};
 ghost use Rattle.std.specs.List.{find};
 ghost use Rattle.std.specs.Map.{lookup};
 ghost use Rattle.std.specs.Ordering.{int_eq};
@@ -126,7 +127,7 @@ impl Mark {
         };
         push_within(&mut self.setters, MOST_SETTERS, setter)?;
         self.rank = rank;
-        self.opened = self.opened.or(Some(place));
+        open_once(&mut self.opened, place);
         Ok(self.meet(version, rank))
     }
 
@@ -168,6 +169,15 @@ impl Mark {
     }
 }
 
+/// Marks that the event of this place opened the document, unless an earlier one did.
+fn open_once(opened: &mut Option<EventPlace>, place: EventPlace)
+    ensures { opened.new ≡ option_or opened.old (Some place) }
+{
+    if opened.is_none() {
+        *opened = Some(place);
+    }
+}
+
 /// Which version of its opening this is by one of these messages; 0 where none of them set it.
 fn rank_of(setters: &VecDeque<VersionEvent>, version: i32) -> u64
     ensures { result ≡ rank_of version setters.now.items }
@@ -186,6 +196,7 @@ fn setter_of(setters: &VecDeque<VersionEvent>, version: i32) -> Option<&VersionE
 }
 
 /// The last of the snapshots that wait for a version, which is the one of this rank.
+#[inline(never)]
 fn last_of(waiting: &WaitMap, version: i32, rank: u64) -> Option<VersionEvent>
     ensures { result ≡ last_shown version rank (waiting_in waiting.now.entries version) }
 {
@@ -222,6 +233,7 @@ fn newer(earlier: VersionEvent, later: VersionEvent) -> VersionEvent
 }
 
 /// Adds a snapshot of a version after its others.
+#[inline(never)]
 fn add(waiting: &mut WaitMap, alloc: Global, version: i32, place: EventPlace) -> Result<()>
     ensures { OnOk result ((number : ℤ) → waiting_in waiting.new.entries number
         ≡ waiting_in waiting.old.entries number
@@ -234,6 +246,7 @@ fn add(waiting: &mut WaitMap, alloc: Global, version: i32, place: EventPlace) ->
 }
 
 /// Drops the snapshots of versions that are reached.
+#[inline(never)]
 fn drop_reached(waiting: &mut WaitMap, version: i32)
     ensures { (number : ℤ) → waiting_in waiting.new.entries number
         ≡ above version (waiting_in waiting.old.entries) number }

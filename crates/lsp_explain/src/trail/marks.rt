@@ -109,9 +109,22 @@ impl Marks {
                 Ok(false)
             }
             Step::Shows(_, Match::Missed) => Ok(false),
-            Step::Shows(..) => self.touch(place, uri, step),
+            Step::Shows(..) => self.touch_shown(place, uri, step),
             Step::Reaches { .. } => self.touch(place, uri, step),
         }
+    }
+
+    /// Marks the same of a snapshot, of which there are few. What is inlined for each event stays
+    /// shorter for it.
+    #[inline(never)]
+    fn touch_shown(&mut self, place: &EventPlace, uri: &str, step: &Step) -> Result<bool>
+        requires { is_closing step.now ≡ false }
+        ensures marked { OnOk result (StepsOn uri.now place.now step.now self.old.map.entries
+            self.new.map.entries) }
+        ensures equal { IfOk result (λ is_equal. is_equal
+            ≡ finds_equal step.now (marked_in self.old.map.entries uri.now)) }
+    {
+        self.touch(place, uri, step)
     }
 
     /// Marks the same of a step that doesn't close the document.

@@ -131,7 +131,7 @@ impl Openings {
             Step::Reaches { opens: true, .. } => push(&mut self.opened, MOST_OPENINGS, uri, place),
             Step::Reaches { opens: false, .. } => add(&mut self.changed, uri),
             Step::Closes => push(&mut self.closed, MOST_CLOSINGS, uri, place),
-            Step::Shows(..) => add(&mut self.shown, uri),
+            Step::Shows(..) => add_other(&mut self.shown, uri),
         }
     }
 }

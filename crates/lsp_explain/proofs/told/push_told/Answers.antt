@@ -137,7 +137,7 @@ returns c = on_ok_weaker c.push_tried.result (λ said before stands breaks tried
     ∙ c.in_ok-setters.ensures terms before stands.trail.marked
     ∙ ap (λ u. setters_until limit (recent (steps terms u before))) c.uri-2.ensures in
     let later = if_later k.base.number shown in
-    let same_shown = c.later.ensures
+    let same_shown = c.later-shown.ensures
     ∙ (λ i. if_later (k.since i) (uncompared_in c.args.past.trail.now.uncompared.map.entries
     (c.uri-3.ensures i)))
     ∙ ap (if_later k.base.number) (stands.trail.shown uri) in

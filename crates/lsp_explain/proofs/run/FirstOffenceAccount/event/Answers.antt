@@ -1,18 +1,12 @@
-use Rattle.std.proofs.Common.{◌≡◌, ◌∙◌, ◌++◌, ap, refl, string_bytes, subst, sym}
-use Rattle.lsp_docs.specs.Documents.{Terms}
+use Rattle.std.proofs.Common.{refl, string_bytes, subst, sym}
+use Rattle.std.proofs.lemmas.Result.{IfOk-weaker}
 use Rattle.lsp_replay.proofs.AllHeard.{kept_seen}
 use Rattle.lsp_replay.proofs.Wanting.{on_err}
-use Rattle.lsp_replay.specs.Telling.{HasFate, ShowsFault}
-use Rattle.lsp_replay.specs.declared.seen.Fate.{Fate}
-use Rattle.lsp_verdict.specs.Given.{verdict_view}
+use Rattle.lsp_replay.specs.Telling.{ShowsFault}
 use Rattle.lsp_verdict.specs.Heard.{heard_events}
-use Rattle.lsp_verdict.specs.Offences.{Offence}
-use Rattle.lsp_explain.specs.MessageNotes.{AreNoted}
-use Rattle.lsp_explain.specs.Misfits.{AreMisfits, found_kept, found_refuted}
-use Rattle.lsp_explain.specs.Notes.{noticed, note_lines, notes_by}
-use Rattle.lsp_explain.proofs.AccountSteps.{first_kept, first_told}
+use Rattle.lsp_explain.specs.Misfits.{AreMisfits}
+use Rattle.lsp_explain.proofs.AccountSteps.{first_kept}
 use Rattle.lsp_explain.proofs.Misfitting.{found_kept-push}
-use Rattle.lsp_explain.proofs.Telling.{stands_before, told_of}
 use Rattle.lsp_explain.proofs.run.FirstOffenceAccount.event.Goals as goal
 
 -- it is kept
@@ -43,49 +37,11 @@ pub returns-in_err-note_kept-clause-memory : goal.returns-in_err-note_kept-claus
 returns-in_err-note_kept-clause-memory c =
     on_err c.from_residual-in_err-note_kept.result (λ terms before h stands seen. refl)
 
-pub returns-in_err-note_refuted-clause-memory : goal.returns-in_err-note_refuted-clause-memory
-returns-in_err-note_refuted-clause-memory c =
-    on_err c.from_residual-in_err-note_refuted.result (λ terms before h stands seen. refl)
-
-pub returns-in_err-push_offence-clause-memory : goal.returns-in_err-push_offence-clause-memory
-returns-in_err-push_offence-clause-memory c =
-    on_err c.from_residual-in_err-push_offence.result (λ terms before h stands seen. refl)
-
-pub returns-in_err-push_notes-clause-memory : goal.returns-in_err-push_notes-clause-memory
-returns-in_err-push_notes-clause-memory c =
-    on_err c.from_residual-in_err-push_notes.result (λ terms before h stands seen. refl)
-
-pub returns-in_err-boxed-clause-memory : goal.returns-in_err-boxed-clause-memory
-returns-in_err-boxed-clause-memory c =
-    on_err c.from_residual-in_err-boxed.result (λ terms before h stands seen. refl)
-
 -- it offends
 pub returns : goal.returns
 returns c = record {
-  asked = refl;
-  memory = tt;
-  says = λ terms before h stands seen.
-      let rule = c.in-Offends.rule in
-      let offence = c.last_offence-offence.result in
-      let verdict = c.verdict-verdict.result in
-      let found = found_kept terms (heard_events before)
-      ++ found_refuted terms (heard_events before) h.note.event rule in
-      let has = subst (λ (f : Fate). HasFate terms before h f) c.in-Offends.is seen.fate in
-      let last = c.last_offence-offence.ensures before h seen.stood.counted seen.few seen.is
-      seen.noted in
-      first_told terms before h c.args.self.now c.args.self.now stands (ShowsFault c.args.seen.now.raw)
-      (string_bytes c.args.text.now) _ rule verdict c.in_ok-boxed.boxed _ _
-      c.in_ok-boxed.ensures.ok has.0
-      (c.verdict-verdict.ensures ∙ ap (λ (x : Offence). x.no) last)
-      (told_of terms before h c.args.seen.now rule c.in-Offends.tried offence _ _ _ _ _ _
-      c.in-Offends.is last seen
-      (c.in_ok-push_offence.ensures terms before h stands.trail))
-      (subst (λ (t : Terms). string_bytes c.push_notes.new.lines
-      ≡ string_bytes c.push_offence.new.text ++ note_lines (notes_by
-      (verdict_view verdict) (noticed t (heard_events before) found))) seen.stood.by
-      (c.in_ok-push_notes.ensures (heard_events before) found
-      (stands_before _ terms before h rule stands.trail seen.stood has.0)
-      (c.in_ok-note_refuted.ensures terms before h _ stands.misfits seen has.0)
-      (subst (λ (t : Terms). AreNoted t c.args.self.now.messages (heard_events before)
-      (heard_events before)) (sym seen.stood.by) stands.messages)));
+  asked = c.explain.ensures.asked;
+  memory = on_err c.explain.result (λ terms before h stands seen. refl);
+  says = IfOk-weaker c.explain.result _ _ (λ flow says terms before h stands seen.
+      says terms before h stands seen c.in-Offends.is) c.explain.ensures.says;
 }

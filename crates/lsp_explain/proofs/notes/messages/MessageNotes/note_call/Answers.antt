@@ -26,7 +26,8 @@ returns c = on_ok_weaker c.note_call-2.result
       spellings = c.in_ok-note_call.ensures terms before h trail are.spellings seen kept said;
       server = subst (λ b. AreServerEdits terms c.note_call-2.new.self
           (served_with b served (heard_events (before ++ h ∷ [])))) (sym c.if-broken.false)
-          (noted terms before h trail
+          (noted terms before h (call_view c.args.call) trail
           (subst (AreServerEdits terms c.args.self.now.server_edits) (sound c.if-broken.false)
-          are.server) seen kept said);
+          are.server) seen kept
+          (sym seen.says ∙ ap (option_map call_view) said));
     }) c.note_call-2.ensures

@@ -20,20 +20,25 @@ use Rattle.lsp_explain.proofs.notes.server_edits.ServerEdits.note_call.Goals as 
 
 -- no answer came late
 pub returns-then-is_empty : goal.returns-then-is_empty
-returns-then-is_empty c = λ terms before h trail are seen kept said.
+returns-then-is_empty c = λ terms before h call trail are seen kept says.
     let late = c.args.self.now.late in
     let none : length late.items ≡ 0 =
     search (rules, c.is_empty.ensures, c.if-is_empty.true, late.ok.0) in
-    edits_quiet terms before h c.args.self.now _ are kept seen.noted.0
-    (sym seen.says ∙ ap (option_map call_view) said) (none_in late.items none)
+    edits_quiet terms before h c.args.self.now call are kept seen.noted.0 says
+    (none_in late.items none)
+
+-- it says nothing of a document
+pub returns-in_default : goal.returns-in_default
+returns-in_default c = λ terms before h call trail are seen kept says.
+    absurd (cc (sym says ∙ sym seen.says ∙ ap (option_map call_view) c.in_default.is))
 
 -- one did
 pub returns : goal.returns
-returns c = on_ok_weaker c.note_change.result (λ noted terms before h trail are seen kept said.
+returns c = on_ok_weaker c.note_change.result (λ noted terms before h own trail are seen kept said.
     let events = heard_events before in
     let event = h.note.event in
     let raw = raw_view c.args.seen.now.raw in
-    let call = call_view c.args.call in
+    let call = call_view c.in-Some.call in
     let read = subst (λ (w : Raw). IsNoted w h.note) seen.is seen.noted in
     let place = c.last-place.result in
     let at = c.last-place.ensures events event
@@ -42,7 +47,7 @@ returns c = on_ok_weaker c.note_change.result (λ noted terms before h trail are
     let old = c.args.self.now in
     let new = c.note_change.new.self in
     let made = calls_with terms events event in
-    let says = sym seen.says ∙ ap (option_map call_view) said in
+    let says = sym seen.says ∙ ap (option_map call_view) c.in-Some.is in
     edits_called terms before h old new call (late_by terms events made place call) are kept
     seen.noted.0 says (ap (λ p. late_by terms events made p call) (sym at))
     c.note_change.ensures.asked c.note_change.ensures.late

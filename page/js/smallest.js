@@ -1,0 +1,25 @@
+// The smallest session that shows the violation: the editor's messages, to run them again.
+
+// JSON that means the same, where each character that cannot be seen is escaped. Between values,
+// there may be a tab or a CR.
+function escapedJson(text) {
+  const escaped = (unit) => "\\u" + unit.charCodeAt(0).toString(16).padStart(4, "0");
+  const isSeen = (it) => it === "\t" || it === "\r" || !ODD.test(it);
+  return [...text].map((it) => (isSeen(it) ? it : it.split("").map(escaped).join(""))).join("");
+}
+
+// Its lines, if the page has it: comments, and messages with `---` between them.
+function smallestLines() {
+  const lines = (session.smallest ?? "").split("\n").slice(0, -1);
+  return lines.map((it) => (it.startsWith("#") ? namedText(it) : escapedJson(it)));
+}
+
+function smallestPart() {
+  const lines = smallestLines();
+  return lines.length === 0 ? null : element("section", "card smallest",
+    element("h2", "", "The smallest session that shows this"),
+    element("p", "", "The editor's messages, as ", element("code", "", "clangd -lit-test"),
+      " reads them. They are in what is copied as Markdown, too."),
+    folded(count(lines.filter((it) => it === "---").length + 1, "message"),
+      () => element("pre", "raw", lines.join("\n"))));
+}
