@@ -27,6 +27,11 @@ right_from_facts terms enc (Some s) sent other =
 
 -- ---- as the code has it
 
+abbrev pub some_by : Trial → Text → List SentEdits → Bool
+some_by trial t sent =
+    some_give (λ (messages : List SentEdits). is_given trial.docs.now.terms t messages
+    (chars trial.other.now) trial.encoding) sent
+
 abbrev pub is_right_by : Trial → List SentEdits → ShownText → Bool
 is_right_by trial sent s =
     is_right_from trial.docs.now.terms trial.encoding sent (chars trial.other.now) s

@@ -31,31 +31,38 @@ pub(crate) fn push_right_from(
     facts.version_by("right-from", shown.version, shown.place)
 }
 
-/// Whether the suspects after a snapshot, of which there has to be one, make the other text of its
-/// text.
+/// Whether the suspects after a snapshot, if there are some, make the other text of its text.
 fn is_right_from(trial: Trial<'_>, suspects: &[Suspect<'_>], shown: &ShownText) -> Result<bool>
     ensures { IfOk result (λ is_right. is_right
         ≡ spec.is_right_by trial.entry (suspects_view suspects.now) (shown_view shown.now)) }
 {
+    let alloc = trial.docs.alloc();
+    let after = later_ones(alloc, suspects, shown)?;
+    let text = Lined::from_text(alloc, shown.text.as_str())?;
+    some_give(trial, &text, after.as_slice())
+}
+
+/// Whether there are suspects, and they make the other text of this one.
+fn some_give(trial: Trial<'_>, text: &Lined, suspects: &[Suspect<'_>]) -> Result<bool>
+    ensures { IfOk result (λ is_given. is_given ≡ spec.some_by trial.entry text.now.content
+        (suspects_view suspects.now)) }
+{
+    if suspects.is_empty() {
+        return Ok(false);
+    }
     let Trial {
         docs,
         encoding,
         other,
         ..
     } = trial;
-    let after = later_ones(docs.alloc(), suspects, shown)?;
-    if after.is_empty() {
-        return Ok(false);
-    }
-    let text = Lined::from_text(docs.alloc(), shown.text.as_str())?;
-    let text = &text;
     let trial = Trial {
         docs,
         encoding,
         text,
         other,
     };
-    gives(trial, encoding, after.as_slice())
+    gives(trial, encoding, suspects)
 }
 
 /// The suspects that set a version after that of a snapshot.

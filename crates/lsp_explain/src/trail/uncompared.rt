@@ -67,20 +67,31 @@ impl Uncompared {
             self.old.map.entries self.new.map.entries) }
     {
         match call {
-            Call::Closes { uri } => {
-                forget(&mut self.map, uri);
-                Ok(())
+            Call::Opens { .. } | Call::Changes { .. } => Ok(()),
+            Call::Closes { .. } | Call::Saves { .. } | Call::Shows { .. } => {
+                keep_call(&mut self.map, place, call, took)
             }
-            Call::Shows { uri, version, text } => {
-                keep_shown(&mut self.map, place, uri, version, text, took)
-            }
-            Call::Opens { .. } | Call::Changes { .. } | Call::Saves { .. } => Ok(()),
         }
     }
 }
 
-/// Keeps a snapshot, if it is not compared.
+/// The same of a call that is rare.
 #[inline(never)]
+fn keep_call(map: &mut ShownMap, place: &EventPlace, call: Call<'_>, took: Took) -> Result<()>
+    ensures { OnOk result (LeavesOn (spec.left_by place.now (call_view call.entry) took)
+        map.old.entries map.new.entries) }
+{
+    match call {
+        Call::Closes { uri } => {
+            forget(map, uri);
+            Ok(())
+        }
+        Call::Shows { uri, version, text } => keep_shown(map, place, uri, version, text, took),
+        Call::Opens { .. } | Call::Changes { .. } | Call::Saves { .. } => Ok(()),
+    }
+}
+
+/// Keeps a snapshot, if it is not compared.
 fn keep_shown(
     map: &mut ShownMap,
     place: &EventPlace,
