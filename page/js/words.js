@@ -210,6 +210,14 @@ function wrongLength(it) {
     it.fits === undefined ? "" : `; in units of ${inUnitsOf(it.fits)} it is ${it.sent} long`];
 }
 
+// A note on edits that were made in another text than that of the request.
+function lateEdits(it) {
+  const request = shownEvent({ event: it.request, side: "editor", number: it.request_number });
+  const answer = shownEvent({ event: it.response, side: "server", number: it.response_number });
+  return [...shownEvent(it), " makes the edits of ", ...answer,
+    " in a text that had changed since ", ...request];
+}
+
 const NOTES = {
   __proto__: null,
   "as-notification": noteOn("is a request in LSP 3.17, and was sent as a notification"),
@@ -231,6 +239,11 @@ const NOTES = {
     ...shownEvent(it), " names ", shownText(it.uri), ", which is not open; ", shownText(it.open),
     " is, and is spelled in another way",
   ],
+  "late-edits": lateEdits,
+  outside: (it) => [...shownEvent(it),
+    ` edits a range at ${shownPlace(it.line, it.column)}, which the text does not have`],
+  overlap: (it) => [...shownEvent(it), " has edits that overlap"],
+  unsent: (it) => [...shownEvent(it), ` names version ${it.version}, which no message has set`],
   "no-snapshot": (it) => [shownText(it.uri), " was changed, and no snapshot of it was compared"],
 };
 

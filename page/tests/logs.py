@@ -41,6 +41,12 @@ def opened(uri, version, text):
     return notification("textDocument/didOpen", {"textDocument": document})
 
 
+def served(start, end, text):
+    """An edit as servers send it."""
+    own = edit(start, end, text)
+    return {"range": own["range"], "newText": own["text"]}
+
+
 def changed(uri, version, *changes):
     document = {"uri": uri, "version": version}
     return notification("textDocument/didChange", {"textDocument": document, "contentChanges": changes})
@@ -248,6 +254,13 @@ def noted():
         frame(b"E", request(3, "workspace/configuration")),
         frame(b"S", notification("textDocument/didSave", about)),
         frame(b"S", notification("textDocument/publishDiagnostics", {"uri": "file:///N%20%3cb>.c", "diagnostics": []})),
+        frame(b"S", notification("textDocument/publishDiagnostics", {"uri": uri, "version": 9, "diagnostics": []})),
+        frame(b"E", request(4, "textDocument/formatting", about)),
+        frame(b"E", changed(uri, 4, edit((0, 0), (0, 0), "x"))),
+        frame(b"S", result(4, [served((1, 0), (1, 1), "d")])),
+        frame(b"E", changed(uri, 5, edit((1, 0), (1, 1), "d"))),
+        frame(b"E", request(5, "textDocument/rangeFormatting", about)),
+        frame(b"S", result(5, [served((0, 0), (0, 2), ""), served((0, 1), (9, 0), "")])),
         frame(b"E", notification("exit", {})),
     ])
 

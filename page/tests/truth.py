@@ -349,6 +349,15 @@ def note_words(name, values):
         return f"{what}: {event_words(values[2:])} is the error {values[0]} (InvalidParams)"
     if name == "similar":
         return f"{event_words(values[2:])} names {values[0]}, which is not open; {values[1]} is, and is spelled in another way"
+    if name == "late-edits":
+        request, answer, change = (event_words(values[at : at + 4]) for at in (0, 4, 8))
+        return f"{change} makes the edits of {answer} in a text that had changed since {request}"
+    if name == "outside":
+        return f"{event_words(values[2:])} edits a range at {place(values)}, which the text does not have"
+    if name == "overlap":
+        return f"{event_words(values)} has edits that overlap"
+    if name == "unsent":
+        return f"{event_words(values[1:])} names version {values[0]}, which no message has set"
     return {
         "exit-without-shutdown": lambda: f"The editor sent exit without shutdown: {event_words(values)}",
         "offset-encoding": lambda: f"The server names {values[0]} in the older member offsetEncoding: it may count columns in it",
@@ -383,7 +392,7 @@ def says_each_note(page, program, log):
     assert shown == [note_words(name, values) for name, *values in notes], (shown, notes)
     if log.name == "noted.log":
         kinds = {name for name, *_ in notes}
-        assert kinds == {*MISUSES, "past-end", "range-length", "refused", "similar", "exit-without-shutdown", "offset-encoding", "no-snapshot"}, kinds
+        assert kinds == {*MISUSES, "past-end", "range-length", "refused", "similar", "late-edits", "outside", "overlap", "unsent", "exit-without-shutdown", "offset-encoding", "no-snapshot"}, kinds
 
 
 def explains_each_violation(page, program, log):

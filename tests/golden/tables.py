@@ -57,6 +57,10 @@ TEMPLATES = {
     "REQ": '{"jsonrpc":"2.0","id":@,"method":"textDocument/hover","params":{}}',
     "ASK": '{"jsonrpc":"2.0","id":@,"method":"textDocument/formatting","params":'
     '{"textDocument":{"uri":@},"options":{}}}',
+    "EDITS": '{"jsonrpc":"2.0","id":@,"result":[*]}',
+    "EDIT": '{"range":{"start":{"line":@,"character":@},"end":{"line":@,"character":@}},"newText":@}',
+    "DIAG": '{"jsonrpc":"2.0","method":"textDocument/publishDiagnostics","params":'
+    '{"uri":@,"version":@,"diagnostics":[]}}',
     "CANCEL": '{"jsonrpc":"2.0","method":"$/cancelRequest","params":{"id":@}}',
     "RES": '{"jsonrpc":"2.0","id":@,"result":null}',
     "ERR": '{"jsonrpc":"2.0","id":@,"error":{"code":@,"message":"c"}}',

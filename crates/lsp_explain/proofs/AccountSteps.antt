@@ -25,10 +25,9 @@ use Rattle.lsp_explain.specs.ExplainRuns.{AllStands, FirstStands, TellsOf, SaysC
 use Rattle.lsp_explain.specs.ExplainRuns.{all_run, cause_at, explain_run, first_lines, has_cause}
 use Rattle.lsp_explain.specs.ExplainRuns.{may_keep}
 use Rattle.lsp_explain.specs.Explained.{cause_lines, is_cause, Breach, breach, noticed_by}
+use Rattle.lsp_explain.specs.MessageNotes.{AreNoted}
 use Rattle.lsp_explain.specs.Misfits.{AreMisfits, found_kept}
 use Rattle.lsp_explain.specs.Notes.{note_lines, notes_by}
-use Rattle.lsp_explain.specs.Refusals.{AreRefusals}
-use Rattle.lsp_explain.specs.Spellings.{AreSpellings}
 use Rattle.lsp_explain.specs.Trails.{IsTrail}
 use Rattle.lsp_explain.specs.declared.run.FirstOffence.{FirstOffence}
 use Rattle.lsp_explain.specs.declared.run_all.AllCauses.{AllCauses}
@@ -82,11 +81,11 @@ module _ (terms : Terms) (before : List Heard) (h : Heard) where
     pub first_kept : rule_of terms before h ≡ None
         → IsTrail terms next.trail (heard_events (before ++ h ∷ []))
         → AreMisfits next.misfits (found_kept terms (heard_events (before ++ h ∷ [])))
-        → AreRefusals terms next.refusals (heard_events (before ++ h ∷ []))
-        → AreSpellings terms next.spellings (heard_events (before ++ h ∷ []))
+        → AreNoted terms next.messages (heard_events (before ++ h ∷ []))
+        (heard_events (before ++ h ∷ []))
         → Says (explain_run account.completeness) terms before h Fits old old
         (FirstStands next terms (before ++ h ∷ [])) GoOn
-    first_kept kept trail misfits refusals spellings = record {
+    first_kept kept trail misfits messages = record {
       said = [];
       added = sym (append-nil old);
       is = λ rests fits. subst (λ (o : Option ℕ). SaysFirst rests terms
@@ -96,8 +95,7 @@ module _ (terms : Terms) (before : List Heard) (h : Heard) where
         record {
           trail = trail;
           misfits = misfits;
-          refusals = refusals;
-          spellings = spellings;
+          messages = messages;
           clean = first_after terms before h stands.clean ∙ none_is terms before h kept;
         },
       );

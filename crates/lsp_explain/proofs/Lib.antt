@@ -15,6 +15,10 @@ pub mod Misfitting
 pub mod NamedDocuments
 pub mod Refusing
 pub mod OtherSpellings
+pub mod ServerNoting
+pub mod EditedTexts
+pub mod LateSteps
+pub mod EditedMessages
 pub mod Changing
 pub mod LaterChanges
 pub mod SentChanges

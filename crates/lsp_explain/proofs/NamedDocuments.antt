@@ -1,7 +1,8 @@
 -- The document that a message names, as it is read from its content.
-use Rattle.std.specs.Prelude.{if◌then◌else◌, is_some, option_and_then, option_map}
+use Rattle.std.specs.Borrow.{Bor}
+use Rattle.std.specs.Prelude.{if◌then◌else◌, is_some, option_and_then, option_map, ℤ}
 use Rattle.std.proofs.Common.{◌≡◌, ℕ, Bool, true, false, List, Option, Some, None, refl, sym, ap}
-use Rattle.std.proofs.Common.{◌∙◌}
+use Rattle.std.proofs.Common.{◌∙◌, subst}
 use Rattle.serde_json.specs.Data.{Data, null, boolean, number, string, array, object}
 use Rattle.serde_json.specs.Find.{as_str}
 use Rattle.lsp_rpc.specs.Ident.{Ident}
@@ -13,7 +14,18 @@ use Rattle.lsp_types.specs.declared.side.Side.{Side}
 use Rattle.lsp_types.specs.declared.side.Side.TheVariants.{Editor, Server}
 use Rattle.lsp_outline.specs.Named.{document_in, named_in}
 use Rattle.lsp_outline.proofs.Naming.{text_names}
-use Rattle.lsp_explain.specs.Naming.{is_call, may_name, named_by, params_of}
+use Rattle.lsp_outline.proofs.Versioning.{text_versions}
+use Rattle.lsp_outline.specs.Versions.{Versioned, versioned, versioned_at, versioned_in}
+use Rattle.lsp_rpc.specs.Act.{Text}
+use Rattle.lsp_rpc.specs.Params.{uri_at, version_at}
+use Rattle.lsp_session.specs.Sent.{Sent}
+use Rattle.lsp_verdict.specs.Event.{Event, fault, message, snapshot}
+use Rattle.lsp_verdict.specs.Given.{raw_view}
+use Rattle.lsp_verdict.specs.Placed.{Reads, content}
+use Rattle.lsp_verdict.specs.declared.raw.Raw as code_raw
+use Rattle.lsp_verdict.specs.declared.raw.Raw.TheVariants as raws
+use Rattle.lsp_explain.specs.Naming.{diagnosed_at, diagnosed_in, is_call, is_diagnosis, may_name}
+use Rattle.lsp_explain.specs.Naming.{named_by, params_of}
 
 -- ---- whether it may name one
 
@@ -98,3 +110,110 @@ pub named_so : (side : Side) (bytes : List ℕ) (m said : Message) → rpc.Reads
     → outline m ≡ outline said → may_name side said ≡ true → named_by side m ≡ named_in side bytes
 named_so side bytes m said reads same is =
     names_so side bytes m reads (may_alike side m said same ∙ is)
+
+-- ---- the diagnostics of a message
+
+is_diagnosis-outline : (side : Side) (m : Message) → is_diagnosis side m ≡ is_diagnosis side (outline m)
+is_diagnosis-outline Editor m = refl
+is_diagnosis-outline Server (request own method params) = refl
+is_diagnosis-outline Server (notification method params) = refl
+is_diagnosis-outline Server (response own (result value)) = refl
+is_diagnosis-outline Server (response own (error code)) = refl
+
+diagnosis_alike : (side : Side) (m said : Message) → outline m ≡ outline said
+    → is_diagnosis side m ≡ is_diagnosis side said
+diagnosis_alike side m said same =
+    is_diagnosis-outline side m ∙ ap (is_diagnosis side) same ∙ sym (is_diagnosis-outline side said)
+
+diagnosed_if : (side : Side) (m : Message) (b : Bool) → is_diagnosis side m ≡ b
+    → diagnosed_in side m ≡ (if b then option_and_then versioned_at (params_of m) else None)
+diagnosed_if side m b is =
+    ap (λ (x : Bool). if x then option_and_then versioned_at (params_of m) else None) is
+
+-- null has no members
+null_versions : (own : Option Data)
+    → option_and_then versioned_at (option_and_then unless_null own)
+    ≡ option_and_then versioned_at own
+null_versions None = refl
+null_versions (Some null) = refl
+null_versions (Some (boolean b)) = refl
+null_versions (Some (number n)) = refl
+null_versions (Some (string s)) = refl
+null_versions (Some (array ds)) = refl
+null_versions (Some (object ms)) = refl
+
+diagnosis_calls : (side : Side) (m : Message) → is_diagnosis side m ≡ true → is_call m ≡ true
+diagnosis_calls Editor m is = absurd (cc is)
+diagnosis_calls Server (request own method params) is = refl
+diagnosis_calls Server (notification method params) is = refl
+diagnosis_calls Server (response own reply) is = absurd (cc is)
+
+module _ (side : Side) (m said : Message) (same : outline m ≡ outline said) where
+  -- **a content names what its diagnostics name**
+  pub diagnosed_so : (bytes : List ℕ) → rpc.Reads bytes m → is_diagnosis side said ≡ true
+      → versioned_in bytes ≡ diagnosed_in side m
+  diagnosed_so bytes reads is =
+      let parts = rpc.parts_of reads.0 in
+      let own = diagnosis_alike side m said same ∙ is in
+      sym (diagnosed_if side m true own
+      ∙ ap (option_and_then versioned_at)
+      (made_with (is_some parts.method) (option_and_then as_str parts.method)
+      (option_and_then as_id parts.id) (option_and_then unless_null parts.params)
+      (rpc.reply_in parts.result parts.error) m reads.2.made (diagnosis_calls side m own))
+      ∙ null_versions parts.params
+      ∙ text_versions bytes reads.0 reads.1.0 reads.1.1)
+
+  pub undiagnosed : is_diagnosis side said ≡ false → None ≡ diagnosed_in side m
+  undiagnosed is = sym (diagnosed_if side m false (diagnosis_alike side m said same ∙ is))
+
+-- no event but a message has any
+pub silent : (event : Event) → ((sent : Sent) → event ≡ message sent → ⊥)
+    → None ≡ diagnosed_at event
+silent (message m) not = absurd (not m refl)
+silent (fault side rule) not = refl
+silent (snapshot uri number text) not = refl
+
+pub silent_raw : (raw : code_raw.Raw) (event : Event)
+    → ((side : Side) (bytes : Bor (List ℕ)) → raw ≡ raws.Content side bytes → ⊥)
+    → Reads (raw_view raw) event → None ≡ diagnosed_at event
+silent_raw (raws.Content side bytes) event not reads = absurd (not side bytes refl)
+silent_raw (raws.Broken side rule rest) (message m) not reads = absurd (cc reads)
+silent_raw (raws.Broken side rule rest) (fault own by) not reads = refl
+silent_raw (raws.Broken side rule rest) (snapshot uri number text) not reads = refl
+silent_raw (raws.Snapshot version uri text) (message m) not reads = absurd (cc reads)
+silent_raw (raws.Snapshot version uri text) (fault own by) not reads = refl
+silent_raw (raws.Snapshot version uri text) (snapshot own number t) not reads = refl
+
+-- ---- the document that they name
+
+uri_back : (number : Option ℤ) (o : Option Text)
+    → option_map (λ (v : Versioned). v.uri) (option_map (versioned number) o) ≡ o
+uri_back number None = refl
+uri_back number (Some uri) = refl
+
+pub named_diagnosed : (m : Message)
+    → option_map (λ (v : Versioned). v.uri) (diagnosed_in Server m) ≡ named_by Server m
+named_diagnosed m = by_test (is_diagnosis Server m) refl
+  where
+    by_params : (o : Option Data)
+        → option_map (λ (v : Versioned). v.uri) (option_and_then versioned_at o)
+        ≡ option_and_then (document_in Server) o
+    by_params None = refl
+    by_params (Some d) = uri_back (version_at d) (uri_at d)
+
+    by_test : (b : Bool) → is_diagnosis Server m ≡ b
+        → option_map (λ (v : Versioned). v.uri) (diagnosed_in Server m) ≡ named_by Server m
+    by_test true is =
+        ap (option_map (λ (v : Versioned). v.uri)) (diagnosed_if Server m true is)
+        ∙ by_params (params_of m) ∙ sym (names_if Server m true is)
+    by_test false is =
+        ap (option_map (λ (v : Versioned). v.uri)) (diagnosed_if Server m false is)
+        ∙ sym (names_if Server m false is)
+
+-- what the message of an event says, of which this side sent this content
+pub said_so : (side : Side) (bytes : List ℕ) (event : Event) → Reads (content side bytes) event
+    → (sent : Sent) → event ≡ message sent
+    → rpc.Reads bytes sent.message × (diagnosed_at event ≡ diagnosed_in side sent.message)
+said_so side bytes event reads sent is =
+    let own = subst (λ (x : Event). Reads (content side bytes) x) is reads in
+    (own.reads, ap diagnosed_at is ∙ ap (λ (x : Side). diagnosed_in x sent.message) own.by)

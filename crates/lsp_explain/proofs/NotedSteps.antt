@@ -8,6 +8,7 @@ use Rattle.std.specs.Option.{option_or}
 use Rattle.std.proofs.Common.{◌≡◌, ℕ, Bool, true, false, List, [], ◌∷◌, ◌++◌, Option, Some, None}
 use Rattle.std.proofs.Common.{refl, sym, ap, subst, ◌∙◌, append_assoc, append-nil}
 use Rattle.std.proofs.lemmas.List.{length-map}
+use Rattle.std.proofs.Math.Bool.{or-true}
 use Rattle.lsp_docs.specs.Documents.{Terms}
 use Rattle.lsp_facts.specs.Fact.{Fact, fact_lines}
 use Rattle.lsp_replay.specs.Lines.{place_of}
@@ -25,7 +26,7 @@ use Rattle.lsp_types.specs.declared.rules.TheConstants as rules
 use Rattle.lsp_verdict.specs.Event.{Event, fault, message, sent_of, snapshot}
 use Rattle.lsp_verdict.specs.Given.{verdict_view}
 use Rattle.lsp_verdict.specs.Heard.{Heard, Rests, heard_events}
-use Rattle.lsp_verdict.specs.LookBack.{each_of, first_of}
+use Rattle.lsp_verdict.specs.LookBack.{each_of, first_from, first_of}
 use Rattle.lsp_verdict.specs.Offences.{said_at}
 use Rattle.lsp_verdict.specs.Verdict.{Verdict}
 use Rattle.lsp_verdict.specs.declared.completeness.Completeness.{Completeness}
@@ -36,19 +37,23 @@ use Rattle.lsp_replay.specs.Run.{IsJudged}
 use Rattle.lsp_explain.specs.AllNotes.{asks_shutdown, can_be_made, end_notes, found_along}
 use Rattle.lsp_explain.specs.AllNotes.{found_at, found_more, has_exited, is_shutdown_refused}
 use Rattle.lsp_explain.specs.AllNotes.{noted_run, noted_verdict, noticed_along, notes_at, one}
-use Rattle.lsp_explain.specs.AllNotes.{refused_shutdown}
+use Rattle.lsp_explain.specs.AllNotes.{is_broken, refused_shutdown, sound_events, sound_from}
 use Rattle.lsp_explain.specs.Behind.{is_on_behind}
 use Rattle.lsp_explain.specs.DocumentNotes.{DocumentNote, document_line, first_notes}
 use Rattle.lsp_explain.specs.DocumentNotes.{note_view, notes_view}
 use Rattle.lsp_explain.specs.ExplainRuns.{all_run}
 use Rattle.lsp_explain.specs.History.{last_ones}
+use Rattle.lsp_explain.specs.MessageNotes.{AreNoted, served_with}
 use Rattle.lsp_explain.specs.Misfits.{Found, event_found, found_refuted, kept_found}
 use Rattle.lsp_explain.specs.Notes.{exit_notes, name_notes, old_name_notes}
 use Rattle.lsp_explain.specs.Openings.{on_view}
 use Rattle.lsp_explain.specs.Refusals.{AreRefusals, event_request, most_requests, refusal_at}
 use Rattle.lsp_explain.specs.Refusals.{refusal_by}
+use Rattle.lsp_explain.specs.ServerEdits.{AreServerEdits}
 use Rattle.lsp_explain.specs.Spellings.{AreSpellings, spelling_at, spelling_by}
+use Rattle.lsp_explain.specs.declared.notes.messages.MessageNotes.{MessageNotes}
 use Rattle.lsp_explain.specs.declared.notes.refusals.Refusals.{Refusals}
+use Rattle.lsp_explain.specs.declared.notes.server_edits.ServerEdits.{ServerEdits}
 use Rattle.lsp_explain.specs.declared.notes.spellings.Spellings.{Spellings}
 use Rattle.lsp_explain.specs.declared.notes.document_notes.DocumentNote as code_notes
 use Rattle.lsp_explain.specs.declared.trail.openings.DocumentEvent as code_events
@@ -144,11 +149,105 @@ module _ (terms : Terms) (before : List Heard) (h : Heard) where
         (kept_before terms before) h.note.event)
         ∙ sym (ap (λ (b : Bool). finds_by b here) there ∙ ap (finds_by false) offends)
 
--- ---- a `shutdown` that is skipped
+-- ---- what the server sends
 
 either : (a b : Option ℕ) → is_some (option_or a b) ≡ (is_some a || is_some b)
 either None b = refl
 either (Some x) b = refl
+
+pub broken-push : (terms : Terms) (before : List Heard) (h : Heard)
+    → is_broken terms (before ++ h ∷ [])
+    ≡ (is_broken terms before || is_some (rule_of terms before h))
+broken-push terms before h =
+    ap is_some (first_of-snoc (rule_of terms) before h)
+    ∙ either (first_of (rule_of terms) before) (rule_of terms before h)
+
+-- one more, of which this is known
+abbrev next_of : Bool → Heard → List Heard
+next_of broken h = if broken then [] else h ∷ []
+
+sound-push : (terms : Terms) (done before : List Heard) (h : Heard)
+    → sound_from terms done (before ++ h ∷ []) ≡ sound_from terms done before
+    ++ next_of (is_some (first_from (rule_of terms) done before)
+    || is_some (rule_of terms (done ++ before) h)) h
+sound-push terms done [] h =
+    ap (λ (l : List Heard). next_of (is_some (rule_of terms l h)) h) (sym (append-nil done))
+sound-push terms done (x ∷ after) h = by_rule (rule_of terms done x) refl
+  where
+    by_rule : (o : Option ℕ) → rule_of terms done x ≡ o
+        → (if is_some o then [] else x ∷ sound_from terms (done ++ x ∷ []) (after ++ h ∷ []))
+        ≡ (if is_some o then [] else x ∷ sound_from terms (done ++ x ∷ []) after)
+        ++ next_of (is_some (option_or o (first_from (rule_of terms) (done ++ x ∷ []) after))
+        || is_some (rule_of terms (done ++ x ∷ after) h)) h
+    by_rule (Some rule) is = refl
+    by_rule None is =
+        ap (λ l. x ∷ l) (sound-push terms (done ++ x ∷ []) after h
+        ∙ ap (λ (l : List Heard). sound_from terms (done ++ x ∷ []) after
+        ++ next_of (is_some (first_from (rule_of terms) (done ++ x ∷ []) after)
+        || is_some (rule_of terms l h)) h) (append_assoc done (x ∷ []) after))
+
+-- none breaks a rule
+sound_all : (terms : Terms) (done heard : List Heard)
+    → is_some (first_from (rule_of terms) done heard) ≡ false
+    → sound_from terms done heard ≡ heard
+sound_all terms done [] none = refl
+sound_all terms done (x ∷ after) none = by_rule (rule_of terms done x) refl
+  where
+    by_rule : (o : Option ℕ) → rule_of terms done x ≡ o
+        → (if is_some o then [] else x ∷ sound_from terms (done ++ x ∷ []) after) ≡ x ∷ after
+    by_rule (Some rule) is =
+        let broken : true ≡ false =
+        sym (ap (λ (o : Option ℕ). is_some (option_or o
+        (first_from (rule_of terms) (done ++ x ∷ []) after))) is) ∙ none in absurd (cc broken)
+    by_rule None is =
+        ap (λ l. x ∷ l) (sound_all terms (done ++ x ∷ []) after
+        (sym (ap (λ (o : Option ℕ). is_some (option_or o
+        (first_from (rule_of terms) (done ++ x ∷ []) after))) is) ∙ none))
+
+-- one that breaks a rule
+pub breaks : (b : Bool) (o : Option ℕ) (rule : ℕ) → o ≡ Some rule → (b || is_some o) ≡ true
+breaks b o rule is = ap (λ (w : Option ℕ). b || is_some w) is ∙ or-true b
+
+module _ (terms : Terms) (before : List Heard) (h : Heard) where
+  -- nothing is looked at after one that breaks a rule
+  pub sound_same : (s : ServerEdits)
+      → (is_broken terms before || is_some (rule_of terms before h)) ≡ true
+      → AreServerEdits terms s (sound_events terms before)
+      → AreServerEdits terms s (sound_events terms (before ++ h ∷ []))
+  sound_same s broken are =
+      subst (λ hs. AreServerEdits terms s (heard_events hs))
+      (sym (sound-push terms [] before h
+      ∙ ap (λ b. sound_from terms [] before ++ next_of b h) broken
+      ∙ append-nil (sound_from terms [] before))) are
+
+  -- before the first one all are
+  pub sound_yet : is_broken terms before ≡ false
+      → sound_events terms before ≡ heard_events before
+  sound_yet none = ap heard_events (sound_all terms [] before none)
+
+  -- one that is kept is looked at where no earlier one broke a rule
+  sound_is : (broken : Bool) → broken ≡ is_broken terms before → rule_of terms before h ≡ None
+      → served_with broken (sound_events terms before) (heard_events (before ++ h ∷ []))
+      ≡ sound_events terms (before ++ h ∷ [])
+  sound_is true is kept =
+      sym (ap heard_events (sound-push terms [] before h
+      ∙ ap (λ b. sound_from terms [] before ++ next_of (b || is_some (rule_of terms before h)) h)
+      (sym is)
+      ∙ append-nil (sound_from terms [] before)))
+  sound_is false is kept =
+      sym (ap heard_events (sound-push terms [] before h
+      ∙ (λ i. sound_all terms [] before (sym is) i
+      ++ next_of ((sym is) i || is_some (kept i)) h)))
+
+  pub sound_next : (m : MessageNotes) (broken : Bool) → broken ≡ is_broken terms before
+      → rule_of terms before h ≡ None
+      → AreNoted terms m (heard_events (before ++ h ∷ []))
+      (served_with broken (sound_events terms before) (heard_events (before ++ h ∷ [])))
+      → AreNoted terms m (heard_events (before ++ h ∷ [])) (sound_events terms (before ++ h ∷ []))
+  sound_next m broken is kept are =
+      subst (AreNoted terms m (heard_events (before ++ h ∷ []))) (sound_is broken is kept) are
+
+-- ---- a `shutdown` that is skipped
 
 pub refused-push : (terms : Terms) (before : List Heard) (h : Heard)
     → is_shutdown_refused terms (before ++ h ∷ [])
@@ -251,19 +350,28 @@ pub noted_length : (items : List code_notes.DocumentNote) (notes : List Document
 noted_length items notes are =
     sym (length-map items note_view) ∙ ap length are ∙ sym (length-map notes document_line)
 
--- of eight kinds
-pub eight : (old a b c d e f g h : List Fact)
-    → (((((((old ++ a) ++ b) ++ c) ++ d) ++ e) ++ f) ++ g) ++ h
-    ≡ old ++ (a ++ (b ++ (c ++ (d ++ (e ++ (f ++ (g ++ (h ++ []))))))))
-eight old a b c d e f g h =
-    append_assoc ((((((old ++ a) ++ b) ++ c) ++ d) ++ e) ++ f) g h
-    ∙ append_assoc (((((old ++ a) ++ b) ++ c) ++ d) ++ e) f (g ++ h)
-    ∙ append_assoc ((((old ++ a) ++ b) ++ c) ++ d) e (f ++ (g ++ h))
-    ∙ append_assoc (((old ++ a) ++ b) ++ c) d (e ++ (f ++ (g ++ h)))
-    ∙ append_assoc ((old ++ a) ++ b) c (d ++ (e ++ (f ++ (g ++ h))))
-    ∙ append_assoc (old ++ a) b (c ++ (d ++ (e ++ (f ++ (g ++ h)))))
-    ∙ append_assoc old a (b ++ (c ++ (d ++ (e ++ (f ++ (g ++ h))))))
-    ∙ ap (λ w. old ++ (a ++ (b ++ (c ++ (d ++ (e ++ (f ++ (g ++ w)))))))) (sym (append-nil h))
+-- of nine kinds
+pub nine : (old a b c d e f g h k : List Fact)
+    → ((((((((old ++ a) ++ b) ++ c) ++ d) ++ e) ++ f) ++ g) ++ h) ++ k
+    ≡ old ++ (a ++ (b ++ (c ++ (d ++ (e ++ (f ++ (g ++ (h ++ k))))))))
+nine old a b c d e f g h k =
+    append_assoc (((((((old ++ a) ++ b) ++ c) ++ d) ++ e) ++ f) ++ g) h k
+    ∙ append_assoc ((((((old ++ a) ++ b) ++ c) ++ d) ++ e) ++ f) g (h ++ k)
+    ∙ append_assoc (((((old ++ a) ++ b) ++ c) ++ d) ++ e) f (g ++ (h ++ k))
+    ∙ append_assoc ((((old ++ a) ++ b) ++ c) ++ d) e (f ++ (g ++ (h ++ k)))
+    ∙ append_assoc (((old ++ a) ++ b) ++ c) d (e ++ (f ++ (g ++ (h ++ k))))
+    ∙ append_assoc ((old ++ a) ++ b) c (d ++ (e ++ (f ++ (g ++ (h ++ k)))))
+    ∙ append_assoc (old ++ a) b (c ++ (d ++ (e ++ (f ++ (g ++ (h ++ k))))))
+    ∙ append_assoc old a (b ++ (c ++ (d ++ (e ++ (f ++ (g ++ (h ++ k)))))))
+
+-- of the four kinds on what the server sends
+pub four : (old a b c d : List Fact)
+    → (((old ++ a) ++ b) ++ c) ++ d ≡ old ++ (a ++ (b ++ (c ++ (d ++ []))))
+four old a b c d =
+    append_assoc ((old ++ a) ++ b) c d
+    ∙ append_assoc (old ++ a) b (c ++ d)
+    ∙ append_assoc old a (b ++ (c ++ d))
+    ∙ ap (λ w. old ++ (a ++ (b ++ (c ++ w)))) (sym (append-nil d))
 
 -- ---- the account
 

@@ -1,5 +1,5 @@
 -- A message that says something of a document is a notification, sent as LSP 3.17 defines it, and
--- says nothing of files.
+-- says nothing of files, nor has it diagnostics.
 use Rattle.std.specs.Prelude.{if◌then◌else◌, option_and_then, option_map}
 use Rattle.std.specs.Str.{bytes_eq}
 use Rattle.std.proofs.Common.{◌≡◌, ◌⊎◌, ◌∙◌, ℕ, Bool, true, false, List, [], ◌∷◌, Option, Some, None}
@@ -19,13 +19,15 @@ use Rattle.lsp_verdict.specs.Event.{call_of}
 use Rattle.lsp_verdict.proofs.Offences.Quiet.{IsNotified, IsPlain, is_notified}
 use Rattle.lsp_explain.specs.SessionNotes.{notification_misuse}
 use Rattle.lsp_explain.specs.StandardMethods.{standard, use_among, use_of}
+use Rattle.lsp_explain.specs.Naming.{is_diagnostics}
 use Rattle.lsp_explain.specs.Renames.{is_on_files}
 
--- a row whose messages say nothing of a document, or whose method has no misuse and is none on
--- files
+-- a row whose messages say nothing of a document, or whose method has no misuse, is none on files
+-- and has no diagnostics
 abbrev IsRight : Side → List ℕ → Act → Type 0
 IsRight side method act =
-    IsPlain act ⊎ ((notification_misuse side method ≡ None) × (is_on_files method ≡ false))
+    IsPlain act ⊎ ((notification_misuse side method ≡ None) × (is_on_files method ≡ false)
+    × (is_diagnostics method ≡ false))
 
 abbrev AreRight : Side → List Row → Type 0
 AreRight side [] = Unit {0}
@@ -78,12 +80,12 @@ right_rows Editor = (
   (
     λ params act e. inl (plain exit act (λ enc kind. refl) e),
     (
-      λ params act e. inr (refl, refl),
+      λ params act e. inr (refl, refl, refl),
       (
-        λ params act e. inr (refl, refl),
+        λ params act e. inr (refl, refl, refl),
         (
-          λ params act e. inr (refl, refl),
-          (λ params act e. inr (refl, refl), (λ params act e. inl (cancels params act e), tt)),
+          λ params act e. inr (refl, refl, refl),
+          (λ params act e. inr (refl, refl, refl), (λ params act e. inl (cancels params act e), tt)),
         ),
       ),
     ),
@@ -110,6 +112,7 @@ pub record IsOnDocument (side : Side) (m : Message) : Type 0 where
   pub is : m ≡ notification method params
   pub standard : notification_misuse side method ≡ None
   pub no_files : is_on_files method ≡ false
+  pub no_diagnostics : is_diagnostics method ≡ false
 
 pub on_document : (side : Side) (m : Message) (act : Act) (enc : Encoding) (kind : SyncKind)
     (call : Call) → act_at side m ≡ Some act → call_of enc kind act ≡ Some call
@@ -126,6 +129,7 @@ on_document side m act enc kind call means says =
       is = told.is;
       standard = right.0;
       no_files = right.1;
+      no_diagnostics = right.2;
     }
     by_row told (inl is_plain) =
         let none : None ≡ Some call = sym (is_plain enc kind) ∙ says in absurd (cc none)

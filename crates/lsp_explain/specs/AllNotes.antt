@@ -23,18 +23,18 @@ use Rattle.lsp_verdict.specs.declared.completeness.Completeness.{Completeness}
 use Rattle.lsp_verdict.specs.declared.outcome.Outcome.{Outcome}
 use Rattle.lsp_explain.specs.Asking.{numbered, same_phase}
 use Rattle.lsp_explain.specs.Behind.{AreBehind, is_on_behind}
-use Rattle.lsp_explain.specs.DocumentNotes.{document_line}
+use Rattle.lsp_explain.specs.DocumentNotes.{DocumentNote, document_line}
 use Rattle.lsp_explain.specs.ExplainRuns.{AllStands, all_run}
+use Rattle.lsp_explain.specs.MessageNotes.{AreNoted}
 use Rattle.lsp_explain.specs.Misfits.{AreMisfits, Found, event_found, past_ends, range_lengths}
 use Rattle.lsp_explain.specs.Notes.{Noticed, count_line, exit_notes, misuse_line, name_notes}
 use Rattle.lsp_explain.specs.Notes.{name_of, noticed, notes_by, old_name_notes, uncompared}
-use Rattle.lsp_explain.specs.Notes.{with_exit}
-use Rattle.lsp_explain.specs.Refusals.{AreRefusals}
+use Rattle.lsp_explain.specs.Notes.{with_exit, with_server}
 use Rattle.lsp_explain.specs.Renames.{renamed}
 use Rattle.lsp_explain.specs.SessionNotes.{abrupt_exit, misuses}
-use Rattle.lsp_explain.specs.Spellings.{AreSpellings}
 use Rattle.lsp_explain.specs.declared.notes.along.NoteCounts.{NoteCounts}
 use Rattle.lsp_explain.specs.declared.notes.along.NotesAlong.{NotesAlong}
+use Rattle.lsp_explain.specs.declared.notes.server_edits.ServerCounts.{ServerCounts}
 use Rattle.lsp_explain.specs.declared.run_noted.NotedCauses.{NotedCauses}
 
 -- ---- what changes find
@@ -88,14 +88,38 @@ exit_along terms heard =
     if is_shutdown_refused terms heard then None
     else abrupt_exit (numbered terms (heard_events heard))
 
+-- ---- what the server sends
+
+-- an event breaks a rule
+abbrev pub is_broken : Terms → List Heard → Bool
+is_broken terms heard = is_some (first_of (rule_of terms) heard)
+
+-- those that come before the first that breaks a rule
+abbrev pub sound_from : Terms → List Heard → List Heard → List Heard
+sound_from terms before [] = []
+sound_from terms before (h ∷ after) =
+    if is_some (rule_of terms before h) then [] else h ∷ sound_from terms (before ++ h ∷ []) after
+
+-- **the events among which the server's edits and versions are looked at**: after an event that is
+-- skipped, the texts and the versions that are held may not be those that the server has
+abbrev pub sound_events : Terms → List Heard → List Event
+sound_events terms heard = heard_events (sound_from terms [] heard)
+
 -- ---- what the notes on all these events are on
 
 abbrev pub noticed_along : Terms → List Heard → Noticed
 noticed_along terms heard =
-    with_exit (exit_along terms heard)
-    (noticed terms (heard_events heard) (found_along terms heard))
+    with_exit (exit_along terms heard) (with_server terms (sound_events terms heard)
+    (noticed terms (heard_events heard) (found_along terms heard)))
 
 -- ---- the notes of an event
+
+-- those on what the server sends
+abbrev pub server_kinds : List DocumentNote → List DocumentNote → List DocumentNote
+    → List DocumentNote → List (List Fact)
+server_kinds late outside overlapping unsent =
+    map document_line late ∷ map document_line outside ∷ map document_line overlapping
+    ∷ map document_line unsent ∷ []
 
 -- the notes that belong to events, of each kind all
 abbrev pub kinds : Noticed → List (List Fact)
@@ -108,7 +132,7 @@ kinds n =
     ∷ map document_line (range_lengths n.found)
     ∷ map document_line n.refused
     ∷ map document_line n.spelled
-    ∷ []
+    ∷ server_kinds n.late n.outside n.overlapping n.unsent
 
 abbrev pub counts : List (List Fact) → List ℕ
 counts lists = map (λ (notes : List Fact). length notes) lists
@@ -173,16 +197,19 @@ abbrev pub one : Bool → ℕ
 one true = 1
 one false = 0
 
+abbrev pub server_view : ServerCounts → List ℕ
+server_view c = c.late_edits ∷ c.outside ∷ c.overlaps ∷ c.unsent ∷ []
+
 abbrev pub told_view : NoteCounts → List ℕ
 told_view t =
     t.misuses ∷ one t.exit ∷ one t.name ∷ one t.renamed ∷ t.past_ends ∷ t.range_lengths
-    ∷ t.refused ∷ t.spelled ∷ []
+    ∷ t.refused ∷ t.spelled ∷ server_view t.server
 
 -- **it is what these events leave of it**, where the notes on those were told
 pub record AreAlong (terms : Terms) (n : NotesAlong) (told heard : List Heard) : Type 0 where
   pub misfits : AreMisfits n.misfits (found_along terms heard)
-  pub refusals : AreRefusals terms n.refusals (heard_events heard)
-  pub spellings : AreSpellings terms n.spellings (heard_events heard)
+  pub messages : AreNoted terms n.messages (heard_events heard) (sound_events terms heard)
+  pub broken : n.broken ≡ is_broken terms heard
   pub behind : AreBehind terms n.behind heard
   pub refused : n.shutdown_refused ≡ is_shutdown_refused terms heard
   pub told_are : told_view n.told ≡ counts (kinds (noticed_along terms told))

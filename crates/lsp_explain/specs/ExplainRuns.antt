@@ -25,10 +25,9 @@ use Rattle.lsp_explain.specs.Asking.{numbered}
 use Rattle.lsp_explain.specs.Explained.{all_closing, cause_lines, is_cause, Breach, Explained}
 use Rattle.lsp_explain.specs.Explained.{Explains, breach_at, end_explained, explanation, breach}
 use Rattle.lsp_explain.specs.Explained.{noticed_by}
+use Rattle.lsp_explain.specs.MessageNotes.{AreNoted}
 use Rattle.lsp_explain.specs.Misfits.{AreMisfits, found_kept}
 use Rattle.lsp_explain.specs.Notes.{note_lines, notes_by}
-use Rattle.lsp_explain.specs.Refusals.{AreRefusals}
-use Rattle.lsp_explain.specs.Spellings.{AreSpellings}
 use Rattle.lsp_explain.specs.Trails.{IsTrail}
 use Rattle.lsp_explain.specs.declared.run.FirstOffence.{FirstOffence}
 use Rattle.lsp_explain.specs.declared.run_all.AllCauses.{AllCauses}
@@ -140,8 +139,7 @@ all_run completeness = record {
 pub record FirstStands (a : FirstOffence) (terms : Terms) (heard : List Heard) : Type 0 where
   pub trail : IsTrail terms a.trail (heard_events heard)
   pub misfits : AreMisfits a.misfits (found_kept terms (heard_events heard))
-  pub refusals : AreRefusals terms a.refusals (heard_events heard)
-  pub spellings : AreSpellings terms a.spellings (heard_events heard)
+  pub messages : AreNoted terms a.messages (heard_events heard) (heard_events heard)
   pub clean : first_no terms (heard_events heard) ≡ None
 
 -- **that of `explain --all`**, which may offend

@@ -22,9 +22,16 @@ pub mod Uncompared
 pub mod Trails
 pub mod Compared
 pub mod DocumentNotes
+pub mod MessageNotes
 pub mod Misfits
 pub mod Refusals
 pub mod Spellings
+pub mod TextEdits
+pub mod EditRequests
+pub mod TextsSince
+pub mod LateEdits
+pub mod Unsent
+pub mod ServerEdits
 pub mod Notes
 pub mod ExplainRuns
 pub mod Behind

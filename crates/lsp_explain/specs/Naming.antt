@@ -7,8 +7,11 @@ use Rattle.lsp_docs.specs.Calls.{Call}
 use Rattle.lsp_docs.specs.Documents.{Terms, held}
 use Rattle.lsp_rpc.specs.Message.{Message, request, notification, response}
 use Rattle.lsp_outline.specs.Named.{document_in}
+use Rattle.lsp_outline.specs.Versions.{Versioned, versioned_at}
+use Rattle.lsp_session.specs.Sent.{Sent}
 use Rattle.lsp_types.specs.declared.side.Side.{Side}
 use Rattle.lsp_types.specs.declared.side.Side.TheVariants.{Editor, Server}
+use Rattle.lsp_verdict.specs.Event.{Event, sent_of}
 
 -- ---- whether a message may name one
 
@@ -41,6 +44,21 @@ params_of (response id reply) = None
 -- server's the diagnostics
 abbrev pub named_by : Side → Message → Option (List ℕ)
 named_by side m = if may_name side m then option_and_then (document_in side) (params_of m) else None
+
+-- ---- the diagnostics of a message
+
+abbrev pub is_diagnosis : Side → Message → Bool
+is_diagnosis Editor m = false
+is_diagnosis Server m = diagnoses m
+
+-- the document that diagnostics of the server name, and the version of it
+abbrev pub diagnosed_in : Side → Message → Option Versioned
+diagnosed_in side m =
+    if is_diagnosis side m then option_and_then versioned_at (params_of m) else None
+
+-- **those of an event**
+abbrev pub diagnosed_at : Event → Option Versioned
+diagnosed_at event = option_and_then (λ (m : Sent). diagnosed_in m.side m.message) (sent_of event)
 
 -- ---- whether it is open
 

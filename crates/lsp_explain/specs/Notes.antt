@@ -13,6 +13,7 @@ use Rattle.lsp_explain.specs.Misfits.{Found, misfit_notes}
 use Rattle.lsp_explain.specs.Refusals.{refusals}
 use Rattle.lsp_explain.specs.Renames.{renamed}
 use Rattle.lsp_explain.specs.Openings.{unshown}
+use Rattle.lsp_explain.specs.ServerEdits.{lates, outsides, overlaps, server_lines, unsents}
 use Rattle.lsp_explain.specs.Spellings.{spellings}
 use Rattle.lsp_verdict.specs.Event.{Event}
 use Rattle.lsp_explain.specs.declared.trail.misuses.Misuse.{Misuse}
@@ -81,7 +82,9 @@ old_name_notes found = option_to_list (option_map
 
 -- what the notes are on: messages, the `exit` without a `shutdown` before it, the documents that
 -- were changed and have no snapshot, what changes found, the documents about which a request was
--- refused, and the URIs under which one was named that is open under another
+-- refused, the URIs under which one was named that is open under another, and the documents whose
+-- edits were made late, have a position outside or overlap, and those of which the server named a
+-- version that was not sent
 pub record Noticed : Type 0 where
   pub said : List Numbered
   pub exit : Option EventPlace
@@ -89,6 +92,10 @@ pub record Noticed : Type 0 where
   pub found : List Found
   pub refused : List DocumentNote
   pub spelled : List DocumentNote
+  pub late : List DocumentNote
+  pub outside : List DocumentNote
+  pub overlapping : List DocumentNote
+  pub unsent : List DocumentNote
 
 -- what these events have of it, whose changes found this
 abbrev pub noticed : Terms → List Event → List Found → Noticed
@@ -99,6 +106,19 @@ noticed terms events found = record {
   found = found;
   refused = refusals terms events;
   spelled = spellings terms events;
+  late = lates terms events;
+  outside = outsides terms events;
+  overlapping = overlaps terms events;
+  unsent = unsents terms events;
+}
+
+-- the same where the server's edits and versions are those of these events
+abbrev pub with_server : Terms → List Event → Noticed → Noticed
+with_server terms events n = record n {
+  late = lates terms events;
+  outside = outsides terms events;
+  overlapping = overlaps terms events;
+  unsent = unsents terms events;
 }
 
 -- the same with this `exit`
@@ -115,6 +135,7 @@ notes_by v n =
     ++ misfit_notes n.found
     ++ map document_line n.refused
     ++ map document_line n.spelled
+    ++ server_lines n.late n.outside n.overlapping n.unsent
 
 -- how many there are, if there are any
 abbrev pub count_line : ℕ → List ℕ

@@ -6,22 +6,29 @@ ghost use Rattle.lsp_explain.specs.SessionNotes.{misused_views};
 ghost use Rattle.lsp_explain.specs.Openings.{names_view, on_view};
 ghost use Rattle.lsp_verdict.specs.Event.{Event};
 ghost use Rattle.lsp_verdict.specs.Given.{verdict_view};
+ghost use Rattle.lsp_explain.specs.MessageNotes.{AreNoted};
 ghost use Rattle.lsp_explain.specs.Misfits.{AreMisfits, Found};
 ghost use Rattle.lsp_explain.specs.Notes as spec;
 ghost use Rattle.lsp_explain.specs.Notes.{count_line, misuse_line, name_notes, name_of, noticed};
 ghost use Rattle.lsp_explain.specs.Notes.{note_lines, notes_by, old_name_notes, uncompared};
-ghost use Rattle.lsp_explain.specs.Notes.{unshown_line, with_exit};
-ghost use Rattle.lsp_explain.specs.Refusals.{AreRefusals};
-ghost use Rattle.lsp_explain.specs.Spellings.{AreSpellings};
+ghost use Rattle.lsp_explain.specs.Notes.{unshown_line, with_exit, with_server};
 ghost use Rattle.lsp_explain.specs.Trails.{StandsAfter, terms_in};
 
 mod along;
 mod behind;
 mod document_notes;
+mod edit_requests;
+mod edited;
+mod late_edits;
+mod messages;
 mod misfits;
 mod refusals;
 mod requests;
+mod server_edits;
 mod spellings;
+mod text_edits;
+mod texts_since;
+mod unsent;
 
 use crate::trace::push_earlier;
 use crate::trail::{DocumentEvent, Misuse, Misused, Past};
@@ -30,8 +37,10 @@ use lsp_facts::{Facts, push_facts};
 use lsp_replay::EventPlace;
 use lsp_rpc::{Encoding, Result};
 use lsp_verdict::{Verdict, encoding_name};
+pub(crate) use messages::MessageNotes;
 pub(crate) use misfits::Misfits;
 pub(crate) use refusals::Refusals;
+pub(crate) use server_edits::{ServerCounts, ServerEdits};
 pub(crate) use spellings::Spellings;
 use std::alloc::Global;
 use std::fmt::Write;
@@ -47,20 +56,18 @@ pub(crate) fn push_notes(
     lines: &mut String,
     past: Past<'_>,
     misfits: &Misfits,
-    refusals: &Refusals,
-    spellings: &Spellings,
+    messages: &MessageNotes,
     verdict: &Verdict,
 ) -> Result<()>
     ensures { OnOk result ((before : List Event) (found : List Found)
         → StandsAfter past.entry before → AreMisfits misfits.now found
-        → AreRefusals (terms_in past.entry) refusals.now before
-        → AreSpellings (terms_in past.entry) spellings.now before
+        → AreNoted (terms_in past.entry) messages.now before before
         → string_bytes lines.new ≡ string_bytes lines.old ++ note_lines
         (notes_by (verdict_view verdict.now) (noticed (terms_in past.entry) before found))) }
 {
     let alloc = *lines.allocator();
     let exit = past.trail.said.notes.abrupt_exit;
-    let notes = notes_of(alloc, past, exit, misfits, refusals, spellings, verdict)?;
+    let notes = notes_of(alloc, past, exit, misfits, messages, verdict)?;
     push_facts(lines, &notes)?;
     push_count(lines, &notes)
 }
@@ -71,16 +78,15 @@ fn notes_of(
     past: Past<'_>,
     exit: Option<EventPlace>,
     misfits: &Misfits,
-    refusals: &Refusals,
-    spellings: &Spellings,
+    messages: &MessageNotes,
     verdict: &Verdict,
 ) -> Result<Facts>
-    ensures { IfOk result (λ notes. (before : List Event) (found : List Found)
+    ensures { IfOk result (λ notes. (before served : List Event) (found : List Found)
         → StandsAfter past.entry before → AreMisfits misfits.now found
-        → AreRefusals (terms_in past.entry) refusals.now before
-        → AreSpellings (terms_in past.entry) spellings.now before
+        → AreNoted (terms_in past.entry) messages.now before served
         → notes ≡ notes_by (verdict_view verdict.now)
-        (with_exit exit (noticed (terms_in past.entry) before found))) }
+        (with_exit exit (with_server (terms_in past.entry) served
+        (noticed (terms_in past.entry) before found)))) }
 {
     let said = &past.trail.said;
     let unshown = past.trail.openings.unshown()?;
@@ -91,8 +97,9 @@ fn notes_of(
     push_renamed(&mut notes, said.renames.renamed())?;
     push_uncompared(&mut notes, verdict, unshown.as_slice())?;
     misfits.push(&mut notes)?;
-    refusals.push(&mut notes)?;
-    spellings.push(&mut notes)?;
+    messages.refusals.push(&mut notes)?;
+    messages.spellings.push(&mut notes)?;
+    messages.server_edits.push(&mut notes)?;
     Ok(notes)
 }
 

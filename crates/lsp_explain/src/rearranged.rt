@@ -280,7 +280,7 @@ fn is_clear(earlier: Option<Span>, later: Option<Span>) -> bool
     }
 }
 
-fn is_before(first: Position, second: Position) -> bool
+pub(crate) fn is_before(first: Position, second: Position) -> bool
     ensures { result ≡ spec.is_before first second }
 {
     first.line < second.line || (first.line == second.line && first.column < second.column)

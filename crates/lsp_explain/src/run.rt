@@ -19,7 +19,7 @@ ghost use Rattle.lsp_explain.specs.ExplainRuns.{ends_said, explain_run};
 ghost use Rattle.lsp_explain.specs.Explained.{explanation};
 ghost use Rattle.lsp_explain.specs.Trails.{IsTrail};
 
-use crate::notes::{Misfits, Refusals, Spellings, push_notes};
+use crate::notes::{MessageNotes, Misfits, push_notes};
 use crate::offence_facts::{push_end, push_flaw, push_offence};
 use crate::trail::{Past, Trail};
 use lsp_docs::Tried;
@@ -64,8 +64,7 @@ pub(crate) struct FirstOffence {
     completeness: Completeness,
     trail: Trail,
     misfits: Misfits,
-    refusals: Refusals,
-    spellings: Spellings,
+    messages: MessageNotes,
 }
 
 impl FirstOffence {
@@ -78,8 +77,7 @@ impl FirstOffence {
             completeness,
             trail: Trail::new(alloc),
             misfits: Misfits::new(alloc),
-            refusals: Refusals::new(alloc),
-            spellings: Spellings::new(alloc),
+            messages: MessageNotes::new(alloc),
         }
     }
 
@@ -113,14 +111,7 @@ impl FirstOffence {
         let verdict = offence.verdict();
         push_offence(text, past, &offence, seen, tried)?;
         self.misfits.note_refuted(held, seen, rule)?;
-        push_notes(
-            text,
-            past,
-            &self.misfits,
-            &self.refusals,
-            &self.spellings,
-            &verdict,
-        )?;
+        push_notes(text, past, &self.misfits, &self.messages, &verdict)?;
         let boxed = Box::new(*text.allocator(), Outcome::Judged(verdict))?;
         Ok(Flow::Stop(boxed))
     }
@@ -138,8 +129,7 @@ impl Account for FirstOffence {
     #[inline(always)]
     fn event(&mut self, held: &Events<Lined>, seen: &Seen<'_>, text: &mut String) -> Result<Flow> {
         let Fate::Offends { rule, tried } = seen.fate else {
-            self.refusals.note_event(held, &self.trail, seen)?;
-            self.spellings.note_event(held, &self.trail, seen)?;
+            self.messages.note_event(held, &self.trail, seen, false)?;
             self.trail.keep(held, seen)?;
             self.misfits.note_kept(held, seen)?;
             return Ok(Flow::GoOn);
@@ -157,14 +147,7 @@ impl Account for FirstOffence {
         let trail = &self.trail;
         let past = Past { held, trail };
         let verdict = push_ending(text, past, log, end, self.completeness)?;
-        push_notes(
-            text,
-            past,
-            &self.misfits,
-            &self.refusals,
-            &self.spellings,
-            &verdict,
-        )?;
+        push_notes(text, past, &self.misfits, &self.messages, &verdict)?;
         Ok(Outcome::Judged(verdict))
     }
 }

@@ -38,9 +38,10 @@ mod uncompared;
 
 use crate::trail::saves::Saves;
 use crate::trail::step::{Step, step_of};
-pub(crate) use base::{Base, SentChanges};
+pub(crate) use base::{Base, SentChanges, room_after};
 pub(crate) use bases::Bases;
 pub(crate) use conversation::Conversation;
+pub(crate) use copies::copy_of;
 pub(crate) use last_change::LastChange;
 pub(crate) use last_ones::push_within;
 use lsp_replay::{EventPlace, Events, Fate, Seen};
@@ -51,6 +52,7 @@ pub(crate) use mark::VersionEvent;
 pub(crate) use marks::Marks;
 pub(crate) use misuses::{Misuse, Misused};
 pub(crate) use openings::{Closing, DocumentEvent, Openings};
+pub(crate) use renames::text_at;
 use std::alloc::Global;
 pub(crate) use uncompared::{ShownText, Uncompared};
 

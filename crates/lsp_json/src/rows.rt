@@ -6,7 +6,7 @@ pub(crate) type Row = (&'static str, &'static str);
 
 /// The rows of the lines of a report: of a verdict, of a log that was not judged, of details, of
 /// notes, and of events.
-pub(crate) const ROWS: [Row; 112] = [
+pub(crate) const ROWS: [Row; 116] = [
     ("yes", "yes"),
     ("yes", "yes remark=nothing-compared"),
     ("read fault", "read fault"),
@@ -128,6 +128,13 @@ pub(crate) const ROWS: [Row; 112] = [
     ("note", "note note=range-length sent=* length length=* @"),
     ("note", "note note=refused code=* uri=* @"),
     ("note", "note note=similar uri=* open=* @"),
+    (
+        "note",
+        "note note=late-edits event request=* editor request_number=* event response=* server response_number=* @",
+    ),
+    ("note", "note note=outside line=* column=* @"),
+    ("note", "note note=overlap @"),
+    ("note", "note note=unsent version=* @"),
     ("request", "event=* side=* request id=* method=*"),
     ("request", "event=* side=* request id=* method=* number=*"),
     ("notification", "event=* side=* notification method=*"),

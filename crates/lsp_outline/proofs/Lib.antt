@@ -15,3 +15,4 @@ pub mod Speaking
 pub mod Negatives
 pub mod LongBlocks
 pub mod Naming
+pub mod Versioning

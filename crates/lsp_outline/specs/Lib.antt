@@ -4,4 +4,5 @@ pub mod Places
 pub mod Spoken
 pub mod Texts
 pub mod Told
+pub mod Versions
 pub mod Walk

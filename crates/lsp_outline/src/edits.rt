@@ -188,7 +188,7 @@ fn span_unless_null_at(
 /// The integer of 32 bits that begins there, where it is not null, and where it ends. Most have one
 /// digit.
 #[inline(always)]
-fn integer_unless_null_at(text: &str, from: usize) -> Option<(Option<i32>, usize)>
+pub(crate) fn integer_unless_null_at(text: &str, from: usize) -> Option<(Option<i32>, usize)>
     requires { from ≤ length text.now }
     ensures { IfSome result (λ r. (d : Data) × ((depth : ℕ) → IsValue depth text.now from r.1 d)
         × (as_integer d ≡ r.0)) }

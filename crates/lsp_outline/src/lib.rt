@@ -4,7 +4,7 @@
 //! and without the value of its result; where the params of a notification are read, it also says
 //! what they mean. It answers exactly what `lsp_rpc` would, and leaves the contents that it
 //! declines to `lsp_rpc`. `document_of` tells in the same way which document a content names in its
-//! params.
+//! params, and `version_of` which version of one.
 #![tactic(auto)]
 
 mod bytes;
@@ -20,7 +20,9 @@ mod positions;
 mod runs;
 mod texts;
 mod tries;
+mod versions;
 mod walk;
 
 pub use document::document_of;
 pub use outline::{MessageReader, Results};
+pub use versions::{DocumentVersion, version_of};

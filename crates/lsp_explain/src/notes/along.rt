@@ -3,7 +3,7 @@ ghost use Rattle.std.specs.Prelude.{◌≡◌, ◌++◌, ◌∷◌, [], List, No
 ghost use Rattle.std.specs.Prelude.{if◌then◌else◌, is_some, map, option_map, string_bytes};
 ghost use Rattle.lsp_docs.specs.Documents.{Terms};
 ghost use Rattle.lsp_facts.specs.Fact.{fact_lines};
-ghost use Rattle.lsp_replay.specs.Telling.{IsSeen, MaySpeak};
+ghost use Rattle.lsp_replay.specs.Telling.{HasFate, IsSeen, MaySpeak, rule_of};
 ghost use Rattle.lsp_rpc.specs.View.{act_view};
 ghost use Rattle.lsp_session.specs.Handshake.{phase};
 ghost use Rattle.lsp_session.specs.Sent.{Sent, is_shutdown};
@@ -15,19 +15,18 @@ ghost use Rattle.lsp_verdict.specs.Given.{verdict_view};
 ghost use Rattle.lsp_verdict.specs.Heard.{Heard, heard_events};
 ghost use Rattle.lsp_explain.specs.AllNotes as spec;
 ghost use Rattle.lsp_explain.specs.AllNotes.{AreAlong, beyond, counts, end_notes, exit_along};
-ghost use Rattle.lsp_explain.specs.AllNotes.{found_more, kinds, noticed_along, notes_at};
-ghost use Rattle.lsp_explain.specs.AllNotes.{refused_shutdown, told_view};
+ghost use Rattle.lsp_explain.specs.AllNotes.{found_more, is_broken, kinds, noticed_along};
+ghost use Rattle.lsp_explain.specs.AllNotes.{notes_at, refused_shutdown, sound_events, told_view};
 ghost use Rattle.lsp_explain.specs.Behind.{AreBehind};
 ghost use Rattle.lsp_explain.specs.DocumentNotes.{document_line, notes_view};
+ghost use Rattle.lsp_explain.specs.MessageNotes.{AreNoted};
 ghost use Rattle.lsp_explain.specs.Misfits.{AreMisfits, Found};
-ghost use Rattle.lsp_explain.specs.Refusals.{AreRefusals};
-ghost use Rattle.lsp_explain.specs.Spellings.{AreSpellings};
 ghost use Rattle.lsp_explain.specs.Trails.{IsTrail, StandsAfter, terms_in};
 
 use crate::notes::behind::Behind;
-use crate::notes::document_notes::{DocumentNote, push_lines};
+use crate::notes::document_notes::{beyond, push_beyond};
 use crate::notes::{
-    ABRUPT_EXIT, Misfits, Refusals, Spellings, name_in, notes_of, push_count, push_misuses,
+    ABRUPT_EXIT, MessageNotes, Misfits, ServerCounts, name_in, notes_of, push_count, push_misuses,
     push_name, push_renamed, push_uncompared,
 };
 use crate::trace::push_earlier;
@@ -51,6 +50,7 @@ pub(crate) struct NoteCounts {
     range_lengths: usize,
     refused: usize,
     spelled: usize,
+    server: ServerCounts,
 }
 
 /// The notes on the events of a session, and how many of them were told.
@@ -60,8 +60,9 @@ pub(crate) struct NoteCounts {
 #[derive(Drop)]
 pub(crate) struct NotesAlong {
     misfits: Misfits,
-    refusals: Refusals,
-    spellings: Spellings,
+    messages: MessageNotes,
+    /// Whether an event broke a rule.
+    broken: bool,
     behind: Behind,
     /// Whether the editor sent a `shutdown` before the exit that broke a rule.
     shutdown_refused: bool,
@@ -75,8 +76,8 @@ impl NotesAlong {
     {
         NotesAlong {
             misfits: Misfits::new(alloc),
-            refusals: Refusals::new(alloc),
-            spellings: Spellings::new(alloc),
+            messages: MessageNotes::new(alloc),
+            broken: false,
             behind: Behind::new(alloc),
             shutdown_refused: false,
             told: NoteCounts {
@@ -88,6 +89,7 @@ impl NotesAlong {
                 range_lengths: 0,
                 refused: 0,
                 spelled: 0,
+                server: ServerCounts::none(),
             },
         }
     }
@@ -108,8 +110,9 @@ impl NotesAlong {
             → IsSeen held.now.session held.now.docs held.now.counts seen.now terms before h
             → AreAlong terms self.new before (before ++ h ∷ [])) }
     {
-        note_messages(&mut self.refusals, &mut self.spellings, held, trail, seen)?;
+        note_kept(&mut self.messages, held, trail, seen, self.broken)?;
         note_changes(&mut self.misfits, &self.behind, held, seen)?;
+        self.broken |= offends(seen);
         self.shutdown_refused |= refuses_shutdown(held, seen);
         self.behind.note(held, seen)
     }
@@ -160,8 +163,7 @@ impl NotesAlong {
             past,
             self.exit(past),
             &self.misfits,
-            &self.refusals,
-            &self.spellings,
+            &self.messages,
             verdict,
         )?;
         push_facts(lines, &last)?;
@@ -188,8 +190,10 @@ impl NotesAlong {
         push_renamed(notes, renamed)?;
         push_beyond(notes, &self.misfits.past_ends, told.past_ends)?;
         push_beyond(notes, &self.misfits.range_lengths, told.range_lengths)?;
-        push_beyond(notes, &self.refusals.refused, told.refused)?;
-        push_beyond(notes, &self.spellings.named, told.spelled)
+        let messages = &self.messages;
+        push_beyond(notes, &messages.refusals.refused, told.refused)?;
+        push_beyond(notes, &messages.spellings.named, told.spelled)?;
+        messages.server_edits.push_beyond(notes, told.server)
     }
 
     /// How many notes of each kind there are.
@@ -206,8 +210,9 @@ impl NotesAlong {
             renamed: said.renames.renamed().is_some(),
             past_ends: self.misfits.past_ends.len(),
             range_lengths: self.misfits.range_lengths.len(),
-            refused: self.refusals.refused.len(),
-            spelled: self.spellings.named.len(),
+            refused: self.messages.refusals.refused.len(),
+            spelled: self.messages.spellings.named.len(),
+            server: self.messages.server_edits.counts(),
         }
     }
 
@@ -219,6 +224,15 @@ impl NotesAlong {
     {
         unless(self.shutdown_refused, past.trail.said.notes.abrupt_exit)
     }
+}
+
+/// Whether an event breaks a rule.
+fn offends(seen: &Seen<'_>) -> bool
+    ensures { (terms : Terms) (before : List Heard) (h : Heard)
+        → HasFate terms before h seen.now.fate
+        → result ≡ is_some (rule_of terms before h) }
+{
+    matches!(seen.fate, Fate::Offends { .. })
 }
 
 /// Whether an event is a `shutdown` of the editor that breaks a rule before the exit. The session
@@ -266,30 +280,28 @@ fn is_shutdown(act: &Act) -> bool
     matches!(act, Act::Shutdown)
 }
 
-/// Notes a message that is kept. The trail is of the events before it.
-fn note_messages(
-    refusals: &mut Refusals,
-    spellings: &mut Spellings,
+/// Notes a message that is kept. The trail is of the events before it. Where an earlier event
+/// broke a rule, what the server sends is left out: after one that is skipped, it may have other
+/// texts and versions.
+fn note_kept(
+    messages: &mut MessageNotes,
     held: &Events<Lined>,
     trail: &Trail,
     seen: &Seen<'_>,
+    broken: bool,
 ) -> Result<()>
-    ensures refused { OnOk result ((terms : Terms) (before : List Heard) (h : Heard)
+    ensures { OnOk result ((terms : Terms) (before : List Heard) (h : Heard)
         → IsTrail terms trail.now (heard_events before)
-        → AreRefusals terms refusals.old (heard_events before)
+        → AreNoted terms messages.old (heard_events before) (sound_events terms before)
+        → broken ≡ is_broken terms before
         → IsSeen held.now.session held.now.docs held.now.counts seen.now terms before h
-        → AreRefusals terms refusals.new (heard_events (before ++ h ∷ []))) }
-    ensures spelled { OnOk result ((terms : Terms) (before : List Heard) (h : Heard)
-        → IsTrail terms trail.now (heard_events before)
-        → AreSpellings terms spellings.old (heard_events before)
-        → IsSeen held.now.session held.now.docs held.now.counts seen.now terms before h
-        → AreSpellings terms spellings.new (heard_events (before ++ h ∷ []))) }
+        → AreNoted terms messages.new (heard_events (before ++ h ∷ []))
+        (sound_events terms (before ++ h ∷ []))) }
 {
     let Fate::Kept(_) = seen.fate else {
         return Ok(());
     };
-    refusals.note_event(held, trail, seen)?;
-    spellings.note_event(held, trail, seen)
+    messages.note_event(held, trail, seen, broken)
 }
 
 /// Notes what the changes of an event find that can be made, unless the document was behind.
@@ -311,21 +323,6 @@ fn note_changes(
         Fate::Kept(_) => misfits.note_kept(held, seen),
         Fate::Offends { rule, .. } => misfits.note_refuted(held, seen, rule),
     }
-}
-
-/// Adds the lines of these notes beyond so many.
-fn push_beyond(facts: &mut Facts, notes: &Vec<DocumentNote>, count: usize) -> Result<()>
-    ensures { OnOk result (facts.new
-        ≡ facts.old ++ drop count (map document_line (notes_view notes.now.items))) }
-{
-    push_lines(facts, beyond(notes.as_slice(), count))
-}
-
-/// The items beyond so many.
-fn beyond<T>(items: &[T], count: usize) -> &[T]
-    ensures { result.now ≡ drop count items.now }
-{
-    items.split_at(count.min(items.len())).1
 }
 
 /// What was found, unless it was told.

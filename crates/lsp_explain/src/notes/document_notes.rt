@@ -1,5 +1,5 @@
 //! Notes that are written once for each document.
-ghost use Rattle.std.specs.Prelude.{◌≡◌, ◌++◌, ◌∷◌, [], OnOk, map, string_bytes};
+ghost use Rattle.std.specs.Prelude.{◌≡◌, ◌++◌, ◌∷◌, [], OnOk, drop, map, string_bytes};
 ghost use Rattle.std.specs.List.{list_any};
 ghost use Rattle.std.specs.Str.{bytes_eq};
 ghost use Rattle.lsp_explain.specs.DocumentNotes as spec;
@@ -66,4 +66,19 @@ pub(crate) fn push_lines(facts: &mut Facts, notes: &[DocumentNote]) -> Result<()
         facts.event(note.words.as_str(), note.place)?;
     }
     Ok(())
+}
+
+/// Adds the lines of these notes beyond so many.
+pub(crate) fn push_beyond(facts: &mut Facts, notes: &Vec<DocumentNote>, count: usize) -> Result<()>
+    ensures { OnOk result (facts.new
+        ≡ facts.old ++ drop count (map document_line (notes_view notes.now.items))) }
+{
+    push_lines(facts, beyond(notes.as_slice(), count))
+}
+
+/// The items beyond so many.
+pub(crate) fn beyond<T>(items: &[T], count: usize) -> &[T]
+    ensures { result.now ≡ drop count items.now }
+{
+    items.split_at(count.min(items.len())).1
 }

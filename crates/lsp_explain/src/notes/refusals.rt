@@ -53,39 +53,12 @@ impl Refusals {
         }
     }
 
-    /// Notes the next event, which is kept. The trail is of the events before it. Usually it says
-    /// something of a document, and so is neither a request nor an answer.
-    ///
-    /// # Errors
-    /// `Memory` where memory was refused; nothing is then known of what is held.
-    #[inline(always)]
-    pub(crate) fn note_event(
-        &mut self,
-        held: &Events<Lined>,
-        trail: &Trail,
-        seen: &Seen<'_>,
-    ) -> Result<()>
-        ensures { OnOk result ((terms : Terms) (before : List Heard) (h : Heard)
-            → IsTrail terms trail.now (heard_events before)
-            → AreRefusals terms self.old (heard_events before)
-            → IsSeen held.now.session held.now.docs held.now.counts seen.now terms before h
-            → rule_of terms before h ≡ None
-            → AreRefusals terms self.new (heard_events (before ++ h ∷ []))) }
-    {
-        let Some(_call) = seen.call else {
-            return self.note_message(held, trail, seen.raw, seen.spoken);
-        };
-        Ok(())
-    }
-
     /// Notes a message that is kept and says nothing of a document. The trail is of the events
     /// before it.
     ///
-    /// Apart from `note_event`, so that an event that says something of a document pays for a test
-    /// alone. It takes parts of what was seen: if all were lent, all would have to stand in memory.
-    #[cold]
-    #[inline(never)]
-    fn note_message(
+    /// # Errors
+    /// `Memory` where memory was refused; nothing is then known of what is held.
+    pub(crate) fn note_message(
         &mut self,
         held: &Events<Lined>,
         trail: &Trail,

@@ -8,23 +8,25 @@ ghost use Rattle.lsp_docs.specs.Documents.{Terms};
 ghost use Rattle.lsp_docs.specs.State.{Stands};
 ghost use Rattle.lsp_docs.specs.Taken.{call_view};
 ghost use Rattle.lsp_explain.specs.DocumentNotes.{document_line, notes_view, with_note};
+ghost use Rattle.lsp_explain.specs.Naming.{diagnosed_at};
 ghost use Rattle.lsp_explain.specs.Openings.{AreOpenings, on_view, ons_view};
 ghost use Rattle.lsp_explain.specs.Spellings as spec;
 ghost use Rattle.lsp_explain.specs.Spellings.{AreSpellings, HoldsOthers, IsSought};
 ghost use Rattle.lsp_explain.specs.Trails.{IsTrail};
+ghost use Rattle.lsp_outline.specs.Versions.{version_view};
 ghost use Rattle.lsp_replay.specs.Telling.{IsSeen, MaySpeak, Stood, kept_before, rule_of};
 ghost use Rattle.lsp_verdict.specs.Event.{Event, calls};
 ghost use Rattle.lsp_verdict.specs.Heard.{Heard, heard_events};
 ghost use Rattle.lsp_verdict.specs.Given.{raw_view};
 ghost use Rattle.lsp_verdict.specs.Offences.{IsNoted, kept_of, said_at};
 
-use crate::naming::{if_unopened, may_name};
+use crate::naming::{if_unopened, uri_of};
 use crate::notes::document_notes::{DocumentNote, is_noted, push_lines, push_note};
 use crate::spelled::{is_spelled, stands_open};
 use crate::trail::{DocumentEvent, Openings, Trail};
 use lsp_docs::{Call, Docs};
 use lsp_facts::Facts;
-use lsp_outline::document_of;
+use lsp_outline::DocumentVersion;
 use lsp_replay::{EventPlace, Events, Seen};
 use lsp_rpc::{Result, Spoken, push_quoted};
 use lsp_survey::folded;
@@ -60,34 +62,13 @@ impl Spellings {
         }
     }
 
-    /// Notes the next event, which is kept. The trail is of the events before it. Usually it
-    /// changes a document, which is open.
+    /// Notes the next event, which is kept and says this of a document. The trail is of the events
+    /// before it. Usually it changes the document, which is open.
     ///
     /// # Errors
     /// `Memory` where memory was refused; nothing is then known of what is held.
     #[inline(always)]
-    pub(crate) fn note_event(
-        &mut self,
-        held: &Events<Lined>,
-        trail: &Trail,
-        seen: &Seen<'_>,
-    ) -> Result<()>
-        ensures { OnOk result ((terms : Terms) (before : List Heard) (h : Heard)
-            → IsTrail terms trail.now (heard_events before)
-            → AreSpellings terms self.old (heard_events before)
-            → IsSeen held.now.session held.now.docs held.now.counts seen.now terms before h
-            → rule_of terms before h ≡ None
-            → AreSpellings terms self.new (heard_events (before ++ h ∷ []))) }
-    {
-        let Some(call) = seen.call else {
-            return self.note_message(held, trail, seen.raw, seen.spoken);
-        };
-        self.note_call(held, trail, seen, call)
-    }
-
-    /// Notes the same of an event that says this of a document.
-    #[inline(always)]
-    fn note_call(
+    pub(crate) fn note_call(
         &mut self,
         held: &Events<Lined>,
         trail: &Trail,
@@ -109,21 +90,22 @@ impl Spellings {
     }
 
     /// Notes a message that is kept and says nothing of a document. The trail is of the events
-    /// before it.
+    /// before it, and this is what its diagnostics name.
     ///
-    /// It takes parts of what was seen: if all were lent, all would have to stand in memory.
-    #[cold]
-    #[inline(never)]
-    fn note_message(
+    /// # Errors
+    /// `Memory` where memory was refused; nothing is then known of what is held.
+    pub(crate) fn note_message(
         &mut self,
         held: &Events<Lined>,
         trail: &Trail,
         raw: Raw<'_>,
         spoken: Option<&Spoken>,
+        diagnosed: &Option<DocumentVersion>,
     ) -> Result<()>
         ensures { OnOk result ((terms : Terms) (before : List Heard) (h : Heard)
             → IsTrail terms trail.now (heard_events before)
             → AreSpellings terms self.old (heard_events before)
+            → option_map version_view diagnosed.now ≡ diagnosed_at h.note.event
             → Stood terms held.now.session held.now.docs held.now.counts (before ++ h ∷ [])
             → rule_of terms before h ≡ None → IsNoted (raw_view raw.entry) h.note
             → MaySpeak (kept_before terms before) h.note.event (option_map (λ s. s.now) spoken.entry)
@@ -136,10 +118,8 @@ impl Spellings {
         let Some(spoken) = spoken else {
             return Ok(());
         };
-        if !may_name(side, &spoken.message) {
-            return Ok(());
-        }
-        let Some(uri) = document_of(held.docs.alloc(), side, content)? else {
+        let alloc = held.docs.alloc();
+        let Some(uri) = uri_of(alloc, side, &spoken.message, content, diagnosed)? else {
             return Ok(());
         };
         let Some(unopened) = if_unopened(&held.docs, uri.as_str()) else {

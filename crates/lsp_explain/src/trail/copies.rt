@@ -67,7 +67,7 @@ fn copies_of(alloc: Global, changes: &[Change]) -> Result<Vec<Change>, AllocErro
     Ok(copies)
 }
 
-fn copy_of(alloc: Global, change: &Change) -> Result<Change, AllocError>
+pub(crate) fn copy_of(alloc: Global, change: &Change) -> Result<Change, AllocError>
     ensures { IfOk result (λ copy. edit_of copy ≡ edit_of change.now) }
 {
     Ok(Change {

@@ -7,11 +7,12 @@ use Rattle.lsp_explain.specs.DocumentNotes.{document_line, notes_view}
 use Rattle.lsp_explain.specs.Misfits.{misfit_notes}
 use Rattle.lsp_explain.specs.Notes.{exit_notes, misuse_line, name_notes, old_name_notes}
 use Rattle.lsp_explain.specs.Notes.{uncompared}
+use Rattle.lsp_explain.specs.ServerEdits.{server_lines}
 use Rattle.lsp_explain.specs.Trails.{terms_in}
 use Rattle.lsp_explain.proofs.notes.notes_of.Goals as goal
 
 pub returns : goal.returns
-returns c = λ before found stands are refused spelled.
+returns c = λ before served found stands are noted_are.
     let terms = terms_in c.args.past in
     let noted = stands.trail.said in
     let name = c.name_in.ensures before stands in
@@ -19,10 +20,13 @@ returns c = λ before found stands are refused spelled.
     let renamed = c.renamed.ensures ∙ noted.renames_are.renamed_is in
     let unshown = ap names_view c.as_slice-2.ensures.value
     ∙ c.in_ok-unshown.ensures terms before stands.trail.opened in
-    let pushed = c.in_ok-push-3.ensures
-    ∙ ap (λ l. l ++ map document_line (notes_view c.args.spellings.now.named.items))
+    let own = c.args.messages.now.server_edits in
+    let pushed = c.in_ok-push-4.ensures
+    ∙ ap (λ l. l ++ server_lines (notes_view own.late_edits.items) (notes_view own.outside.items)
+    (notes_view own.overlaps.items) (notes_view own.unsent.items)) (c.in_ok-push-3.ensures
+    ∙ ap (λ l. l ++ map document_line (notes_view c.args.messages.now.spellings.named.items))
     (c.in_ok-push-2.ensures
-    ∙ ap (λ l. l ++ map document_line (notes_view c.args.refusals.now.refused.items))
+    ∙ ap (λ l. l ++ map document_line (notes_view c.args.messages.now.refusals.refused.items))
     (c.in_ok-push.ensures found are
     ∙ ap (λ l. l ++ misfit_notes found) (c.in_ok-push_uncompared.ensures
     ∙ ap (λ l. l ++ uncompared (verdict_view c.args.verdict.now) (names_view
@@ -34,9 +38,11 @@ returns c = λ before found stands are refused spelled.
     ∙ ap (λ l. l ++ exit_notes c.args.exit)
     (c.in_ok-push_misuses.ensures
     ∙ ap (λ l. l ++ map misuse_line (misused_views c.as_slice.result.now))
-    c.new-notes.ensures))))))) in
+    c.new-notes.ensures)))))))) in
     pushed
     ∙ (λ i. map misuse_line (calls i) ++ exit_notes c.args.exit ++ name_notes (name i)
     ++ old_name_notes (renamed i)
     ++ uncompared (verdict_view c.args.verdict.now) (unshown i) ++ misfit_notes found
-    ++ map document_line (refused.refused_are i) ++ map document_line (spelled.named_are i))
+    ++ map document_line (noted_are.refusals.refused_are i) ++ map document_line (noted_are.spellings.named_are i)
+    ++ server_lines (noted_are.server.late_edits_are i) (noted_are.server.outside_are i) (noted_are.server.overlaps_are i)
+    (noted_are.server.unsent_are i))

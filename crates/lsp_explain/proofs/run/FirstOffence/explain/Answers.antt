@@ -5,10 +5,9 @@ use Rattle.lsp_replay.specs.declared.seen.Fate.{Fate}
 use Rattle.lsp_verdict.specs.Given.{verdict_view}
 use Rattle.lsp_verdict.specs.Heard.{heard_events}
 use Rattle.lsp_verdict.specs.Offences.{Offence}
+use Rattle.lsp_explain.specs.MessageNotes.{AreNoted}
 use Rattle.lsp_explain.specs.Misfits.{found_kept, found_refuted}
 use Rattle.lsp_explain.specs.Notes.{noticed, note_lines, notes_by}
-use Rattle.lsp_explain.specs.Refusals.{AreRefusals}
-use Rattle.lsp_explain.specs.Spellings.{AreSpellings}
 use Rattle.lsp_explain.proofs.AccountSteps.{first_told}
 use Rattle.lsp_explain.proofs.Telling.{stands_before, told_of}
 use Rattle.lsp_explain.proofs.run.FirstOffence.explain.Goals as goal
@@ -38,8 +37,6 @@ returns c = record {
       (c.in_ok-push_notes.ensures (heard_events before) found
       (stands_before _ terms before h rule stands.trail seen.stood has.0)
       (c.in_ok-note_refuted.ensures terms before h _ stands.misfits seen has.0)
-      (subst (λ (t : Terms). AreRefusals t c.args.self.now.refusals (heard_events before))
-      (sym seen.stood.by) stands.refusals)
-      (subst (λ (t : Terms). AreSpellings t c.args.self.now.spellings (heard_events before))
-      (sym seen.stood.by) stands.spellings)));
+      (subst (λ (t : Terms). AreNoted t c.args.self.now.messages (heard_events before)
+      (heard_events before)) (sym seen.stood.by) stands.messages)));
 }

@@ -7,8 +7,7 @@ returns c = record {
   stands = λ terms. record {
     trail = c.new.ensures terms;
     misfits = c.new-2.ensures;
-    refusals = c.new-3.ensures terms;
-    spellings = c.new-4.ensures terms;
+    messages = c.new-3.ensures terms;
     clean = refl;
   };
 }

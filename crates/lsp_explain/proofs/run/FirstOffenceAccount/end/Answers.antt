@@ -2,10 +2,9 @@ use Rattle.std.proofs.Common.{◌≡◌, ◌++◌, [], append-nil, string_bytes,
 use Rattle.lsp_docs.specs.Documents.{Terms}
 use Rattle.lsp_verdict.specs.Given.{verdict_view}
 use Rattle.lsp_verdict.specs.Heard.{heard_events}
+use Rattle.lsp_explain.specs.MessageNotes.{AreNoted}
 use Rattle.lsp_explain.specs.Misfits.{AreMisfits, found_kept}
 use Rattle.lsp_explain.specs.Notes.{noticed, note_lines, notes_by}
-use Rattle.lsp_explain.specs.Refusals.{AreRefusals}
-use Rattle.lsp_explain.specs.Spellings.{AreSpellings}
 use Rattle.lsp_explain.proofs.Ending.{first_closes}
 use Rattle.lsp_explain.proofs.Telling.{stands_at}
 use Rattle.lsp_explain.proofs.run.FirstOffenceAccount.end.Goals as goal
@@ -23,8 +22,6 @@ returns c = record {
       (c.in_ok-push_notes.ensures (heard_events heard) (found ++ [])
       (stands_at _ terms heard stands.trail stood)
       (subst (AreMisfits c.args.self.now.misfits) (sym (append-nil found)) stands.misfits)
-      (subst (λ (t : Terms). AreRefusals t c.args.self.now.refusals (heard_events heard))
-      (sym stood.by) stands.refusals)
-      (subst (λ (t : Terms). AreSpellings t c.args.self.now.spellings (heard_events heard))
-      (sym stood.by) stands.spellings)));
+      (subst (λ (t : Terms). AreNoted t c.args.self.now.messages (heard_events heard)
+      (heard_events heard)) (sym stood.by) stands.messages)));
 }

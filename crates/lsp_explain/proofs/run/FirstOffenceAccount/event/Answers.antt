@@ -20,18 +20,14 @@ returns-in_default c = record {
       (string_bytes c.args.text.now) rule (c.in_ok-keep.ensures terms before h stands.trail seen)
       (subst (AreMisfits _) (sym (found_kept-push terms before h))
       (c.in_ok-note_kept.ensures terms before h _ stands.misfits seen))
-      (c.in_ok-note_event.ensures terms before h stands.trail stands.refusals seen rule)
-      (c.in_ok-note_event-2.ensures terms before h stands.trail stands.spellings seen rule);
+      (c.in_ok-note_event.ensures terms before h (heard_events before) stands.trail stands.messages
+      (λ is. refl) seen rule);
 }
 
 -- memory is refused
 pub returns-in_err-note_event-clause-memory : goal.returns-in_err-note_event-clause-memory
 returns-in_err-note_event-clause-memory c =
     on_err c.from_residual.result (λ terms before h stands seen. refl)
-
-pub returns-in_err-note_event-2-clause-memory : goal.returns-in_err-note_event-2-clause-memory
-returns-in_err-note_event-2-clause-memory c =
-    on_err c.from_residual-in_err-note_event-2.result (λ terms before h stands seen. refl)
 
 pub returns-in_err-keep-clause-memory : goal.returns-in_err-keep-clause-memory
 returns-in_err-keep-clause-memory c =

@@ -1,8 +1,8 @@
 use Rattle.std.specs.Prelude.{length}
-use Rattle.std.proofs.Common.{◌∷◌, ◌∙◌, [], ap, sym}
+use Rattle.std.proofs.Common.{◌∷◌, ◌∙◌, ap, sym}
 use Rattle.std.proofs.lemmas.List.{length-map}
 use Rattle.lsp_verdict.specs.Heard.{heard_events}
-use Rattle.lsp_explain.specs.AllNotes.{one}
+use Rattle.lsp_explain.specs.AllNotes.{counts, one, server_kinds}
 use Rattle.lsp_explain.specs.Notes.{exit_notes, misuse_line, name_notes, old_name_notes}
 use Rattle.lsp_explain.specs.SessionNotes.{misused_view}
 use Rattle.lsp_explain.proofs.NotedSteps.{exit_there, name_there, noted_length, renamed_there}
@@ -27,9 +27,11 @@ returns c = λ before heard stands are.
     ∙ noted_length _ _ are.misfits.past_ends_are in
     let lengths = c.len-3.ensures ∙ self.misfits.range_lengths.ok.0
     ∙ noted_length _ _ are.misfits.range_lengths_are in
-    let refused = c.len-4.ensures ∙ self.refusals.refused.ok.0
-    ∙ noted_length _ _ are.refusals.refused_are in
-    let spelled = c.len-5.ensures ∙ self.spellings.named.ok.0
-    ∙ noted_length _ _ are.spellings.named_are in
+    let refused = c.len-4.ensures ∙ self.messages.refusals.refused.ok.0
+    ∙ noted_length _ _ are.messages.refusals.refused_are in
+    let spelled = c.len-5.ensures ∙ self.messages.spellings.named.ok.0
+    ∙ noted_length _ _ are.messages.spellings.named_are in
+    let server = c.counts.ensures ∙ (λ i. counts (server_kinds (are.messages.server.late_edits_are i)
+    (are.messages.server.outside_are i) (are.messages.server.overlaps_are i) (are.messages.server.unsent_are i))) in
     λ i. misuses i ∷ exit i ∷ name i ∷ renamed i ∷ past_ends i ∷ lengths i ∷ refused i
-    ∷ spelled i ∷ []
+    ∷ spelled i ∷ server i

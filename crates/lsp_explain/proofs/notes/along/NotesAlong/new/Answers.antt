@@ -1,12 +1,12 @@
-use Rattle.std.proofs.Common.{refl}
+use Rattle.std.proofs.Common.{◌∷◌, ap, refl}
 use Rattle.lsp_explain.proofs.notes.along.NotesAlong.new.Goals as goal
 
 pub returns : goal.returns
 returns c = λ terms. record {
   misfits = c.new.ensures;
-  refusals = c.new-2.ensures terms;
-  spellings = c.new-3.ensures terms;
-  behind = c.new-4.ensures terms;
+  messages = c.new-2.ensures terms;
+  broken = refl;
+  behind = c.new-3.ensures terms;
   refused = refl;
-  told_are = refl;
+  told_are = ap (λ ns. 0 ∷ 0 ∷ 0 ∷ 0 ∷ 0 ∷ 0 ∷ 0 ∷ 0 ∷ ns) c.none.ensures;
 }

@@ -4,8 +4,9 @@ use Rattle.std.proofs.lemmas.Result.{on_ok_weaker}
 use Rattle.lsp_facts.specs.Fact.{fact_lines}
 use Rattle.lsp_verdict.specs.Given.{verdict_view}
 use Rattle.lsp_verdict.specs.Heard.{heard_events}
-use Rattle.lsp_explain.specs.AllNotes.{found_along}
+use Rattle.lsp_explain.specs.AllNotes.{found_along, sound_events}
 use Rattle.lsp_explain.specs.Notes.{count_line, notes_by, noticed, uncompared, with_exit}
+use Rattle.lsp_explain.specs.Notes.{with_server}
 use Rattle.lsp_explain.specs.Openings.{names_view, unshown}
 use Rattle.lsp_explain.specs.Trails.{terms_in}
 use Rattle.lsp_explain.proofs.notes.along.NotesAlong.push_end.Goals as goal
@@ -24,8 +25,9 @@ returns c =
     let last = c.in_ok-push_uncompared.ensures
     ∙ ap (λ l. l ++ uncompared v (names_view c.as_slice.result.now)) c.new-last.ensures
     ∙ ap (uncompared v) bare in
-    let noted = c.in_ok-all.ensures events found stands are.misfits are.refusals are.spellings
-    ∙ ap (λ e. notes_by v (with_exit e (noticed terms events found)))
+    let noted = c.in_ok-all.ensures events (sound_events terms heard) found stands are.misfits are.messages
+    ∙ ap (λ e. notes_by v (with_exit e (with_server terms (sound_events terms heard)
+    (noticed terms events found))))
     (c.exit.ensures heard heard stands are) in
     counted
     ∙ ap (λ w. w ++ count_line (length all))

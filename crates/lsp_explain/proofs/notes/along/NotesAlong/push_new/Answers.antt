@@ -11,8 +11,8 @@ returns c =
     record {
       told = on_ok_weaker c.push_facts.result (λ pushed before h stands are. record {
         misfits = are.misfits;
-        refusals = are.refusals;
-        spellings = are.spellings;
+        messages = are.messages;
+        broken = are.broken;
         behind = are.behind;
         refused = are.refused;
         told_are = c.counts-self.ensures before (before ++ h ∷ []) stands are;

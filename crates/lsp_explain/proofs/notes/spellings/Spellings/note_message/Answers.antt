@@ -13,76 +13,57 @@ use Rattle.lsp_explain.specs.DocumentNotes.{notes_view, with_note}
 use Rattle.lsp_explain.specs.Openings.{AreOpenings}
 use Rattle.lsp_explain.specs.Naming.{if_unopened}
 use Rattle.lsp_explain.specs.Spellings.{HoldsOthers, spelling_note}
-use Rattle.lsp_explain.proofs.NamedDocuments.{named_so, unnamed}
+use Rattle.lsp_explain.proofs.NamedDocuments.{said_so}
 use Rattle.lsp_explain.proofs.OtherSpellings.{calls_after, named_none, named_one, others_stay}
-use Rattle.lsp_explain.proofs.OtherSpellings.{own_reads}
 use Rattle.lsp_explain.proofs.Trails.{is_message, no_content}
 use Rattle.lsp_explain.proofs.notes.spellings.Spellings.note_message.Goals as goal
 
 -- no content is no message
 pub returns-in_default : goal.returns-in_default
-returns-in_default c = λ terms before h trail are stood kept noted spoken says.
+returns-in_default c = λ terms before h trail are named stood kept noted spoken says.
     let own = is_message terms (heard_events before) h.note.event kept says in
     absurd (no_content c.args.raw own.0 c.in_default.not-Content (rw own.1 at noted.0))
 
 pub returns-in_default-spoken : goal.returns-in_default-spoken
-returns-in_default-spoken c = λ terms before h trail are stood kept noted spoken says.
+returns-in_default-spoken c = λ terms before h trail are named stood kept noted spoken says.
     let own = is_message terms (heard_events before) h.note.event kept says in
     absurd ((rw c.in_default-spoken.is at spoken) own.0 own.1)
 
--- its params are not read
-pub returns-then-not-may_name : goal.returns-then-not-may_name
-returns-then-not-may_name c = λ terms before h trail are stood kept noted spoken says.
-    let side = c.in-Content.side in
-    let bytes = c.in-Content.content.now in
-    let reads = rw c.in-Content.is at noted.0 in
-    let heard = rw c.in-Some.is at spoken in
-    let own = calls (kept_of terms (heard_events before)) in
-    named_none terms before h c.args.self.now are kept says side heard.0 bytes
-    c.in-Some.spoken.now reads heard.1 _ refl
-    (ap (option_and_then (if_unopened terms own))
-    (unnamed side heard.1.sent.message _ heard.1.says
-    (sym c.may_name.ensures ∙ c.if-not-may_name.true)))
-
 -- it names no document
 pub returns-in_default-2 : goal.returns-in_default-2
-returns-in_default-2 c = λ terms before h trail are stood kept noted spoken says.
+returns-in_default-2 c = λ terms before h trail are named stood kept noted spoken says.
     let side = c.in-Content.side in
     let bytes = c.in-Content.content.now in
     let reads = rw c.in-Content.is at noted.0 in
     let heard = rw c.in-Some.is at spoken in
     let own = calls (kept_of terms (heard_events before)) in
-    let message = own_reads terms before h c.args.self.now are kept says side heard.0 bytes
-    c.in-Some.spoken.now reads heard.1 c.args.self.now in
+    let own_message = said_so side bytes h.note.event reads heard.1.sent heard.1.is in
     named_none terms before h c.args.self.now are kept says side heard.0 bytes
     c.in-Some.spoken.now reads heard.1 _ refl
     (ap (option_and_then (if_unopened terms own))
-    (named_so side bytes heard.1.sent.message _ message heard.1.says
-    (sym c.may_name.ensures ∙ c.if-not-may_name.false)
-    ∙ sym c.in_ok-uri.ensures ∙ ap (option_map string_bytes) c.in_default-2.is))
+    (sym (c.in_ok-uri.ensures heard.1.sent.message own_message.0 heard.1.says
+    (named ∙ own_message.1)) ∙ ap (option_map string_bytes) c.in_default-2.is))
 
 -- it is open
 pub returns-in_default-if_unopened : goal.returns-in_default-if_unopened
-returns-in_default-if_unopened c = λ terms before h trail are stood kept noted spoken says.
+returns-in_default-if_unopened c = λ terms before h trail are named stood kept noted spoken says.
     let side = c.in-Content.side in
     let bytes = c.in-Content.content.now in
     let reads = rw c.in-Content.is at noted.0 in
     let heard = rw c.in-Some.is at spoken in
     let own = calls (kept_of terms (heard_events before)) in
-    let message = own_reads terms before h c.args.self.now are kept says side heard.0 bytes
-    c.in-Some.spoken.now reads heard.1 c.args.self.now in
+    let own_message = said_so side bytes h.note.event reads heard.1.sent heard.1.is in
     let stay = calls_after terms before h None kept says ∙ append-nil own in
     named_none terms before h c.args.self.now are kept says side heard.0 bytes
     c.in-Some.spoken.now reads heard.1 _ refl
     (ap (option_and_then (if_unopened terms own))
-    (named_so side bytes heard.1.sent.message _ message heard.1.says
-    (sym c.may_name.ensures ∙ c.if-not-may_name.false)
-    ∙ sym c.in_ok-uri.ensures ∙ ap (option_map string_bytes) c.in-Some-2.is)
+    (sym (c.in_ok-uri.ensures heard.1.sent.message own_message.0 heard.1.says
+    (named ∙ own_message.1)) ∙ ap (option_map string_bytes) c.in-Some-2.is)
     ∙ (λ i. if_unopened ((sym stood.by) i) ((sym stay) i) ((sym c.as_str.ensures.value) i))
     ∙ sym (c.in_default-if_unopened.ensures _ stood.holds.called))
 
 pub returns : goal.returns
-returns c = on_ok_weaker c.note.result (λ one terms before h trail are stood kept noted spoken says.
+returns c = on_ok_weaker c.note.result (λ one terms before h trail are named stood kept noted spoken says.
     let side = c.in-Content.side in
     let bytes = c.in-Content.content.now in
     let events = heard_events before in
@@ -95,16 +76,14 @@ returns c = on_ok_weaker c.note.result (λ one terms before h trail are stood ke
     let at = c.last-place.ensures events h.note.event
     (subst (AreCounts c.args.held.now.counts) (events-push before h) stood.counted)
     (c.who_of.ensures ∙ sym (whose_read (content side bytes) h.note.event reads)) in
-    let message = own_reads terms before h c.args.self.now are kept says side heard.0 bytes
-    c.in-Some.spoken.now reads heard.1 c.args.self.now in
+    let own_message = said_so side bytes h.note.event reads heard.1.sent heard.1.is in
     let stay = calls_after terms before h None kept says ∙ append-nil own in
     let others = others_stay terms uri own made stay in
     named_one terms before h c.args.self.now are kept says side heard.0 bytes
     c.in-Some.spoken.now reads heard.1 _ place uri at
     (ap (option_and_then (if_unopened terms own))
-    (named_so side bytes heard.1.sent.message _ message heard.1.says
-    (sym c.may_name.ensures ∙ c.if-not-may_name.false)
-    ∙ sym c.in_ok-uri.ensures ∙ ap (option_map string_bytes) c.in-Some-2.is)
+    (sym (c.in_ok-uri.ensures heard.1.sent.message own_message.0 heard.1.says
+    (named ∙ own_message.1)) ∙ ap (option_map string_bytes) c.in-Some-2.is)
     ∙ (λ i. if_unopened ((sym stood.by) i) ((sym stay) i) ((sym c.as_str.ensures.value) i))
     ∙ sym (c.in-Some-if_unopened.ensures _ stood.holds.called))
     (subst (λ (t : Terms). AreOpenings t c.args.trail.now.openings events

@@ -1,0 +1,260 @@
+-- What the server's edits are in the texts of a document, as the code has it.
+use Rattle.std.specs.Prelude.{◌||◌, MatchOption, get_or, int_lt, is_none, is_some, nat_lt, not}
+use Rattle.std.specs.Borrow.{Bor}
+use Rattle.std.specs.Prelude.{if◌then◌else◌, Result, Ok, Err, option_map, option_to_list, ℤ}
+use Rattle.std.specs.List.{cons_option, find, insert, prefix_len}
+use Rattle.std.specs.Option.{option_or}
+use Rattle.std.specs.Str.{chars}
+use Rattle.std.proofs.Common.{◌≡◌, ◌<◌, ◌+◌, ℕ, Bool, true, false, List, [], ◌∷◌, ◌++◌, Option, Some}
+use Rattle.std.proofs.Common.{None, refl, sym, ap, ◌∙◌, append-nil, append_assoc, arith}
+use Rattle.std.proofs.Common.{cond, drop, length, suc, take, zero}
+use Rattle.std.proofs.lemmas.Bool.Decides.{nat_tests}
+use Rattle.std.proofs.lemmas.List.{drop-map, drop_more, map-append, take-append-drop, take-map}
+use Rattle.std.proofs.lemmas.List.Elements.{filter-append, filter_map-append}
+use Rattle.serde_json.specs.View.{items_view}
+use Rattle.serde_json.specs.declared.value.Value.{Value}
+use Rattle.lsp_docs.specs.Calls.{Text}
+use Rattle.lsp_docs.specs.Documents.{Version}
+use Rattle.lsp_docs.specs.Rules.{text_at}
+use Rattle.lsp_types.specs.declared.change.Change.{Change}
+use Rattle.lsp_types.specs.declared.position.Encoding.{Encoding}
+use Rattle.lsp_types.specs.declared.position.Encoding.TheVariants.{Utf8}
+use Rattle.lsp_types.specs.declared.position.Position.{Position}
+use Rattle.lsp_types.specs.declared.rules.TheConstants as rules
+use Rattle.lsp_text.specs.Changes.{edit_of, edits_of}
+use Rattle.lsp_text.specs.Counted.{Counted}
+use Rattle.lsp_text.specs.Edits.{Edit, limited, replaced, spliced}
+use Rattle.lsp_text.specs.Findings.{past_by, past_of, text_extent}
+use Rattle.lsp_text.specs.Places.{place_of, units}
+use Rattle.lsp_text.specs.declared.findings.PastEnd.{PastEnd}
+use Rattle.lsp_explain.specs.LateEdits.{are_held, most_size, placed, precedes}
+use Rattle.lsp_explain.specs.SentEdits.{edits_size}
+use Rattle.lsp_explain.specs.TextEdits.{count_of}
+use Rattle.lsp_explain.specs.TextsSince.{contents, is_outside, is_past, not_below, numbers_of}
+use Rattle.lsp_explain.specs.TextsSince.{texts_at, texts_in}
+use Rattle.lsp_explain.proofs.Fitting.{prefix_len-map}
+
+-- ---- edits, as they are listed
+
+pub count_is : (values : List Value) → count_of (items_view values) ≡ length values
+count_is [] = refl
+count_is (v ∷ values) = ap (λ n. n + 1) (count_is values) ∙ plus_one (length values)
+  where
+    plus_one : (n : ℕ) → n + 1 ≡ suc n
+    plus_one n = omega arith
+
+-- ---- a position outside
+
+-- nothing is replaced by nothing
+splice_none : (t : List ℕ) (a : ℕ) → take a t ++ [] ++ drop a t ≡ t
+splice_none t a = ap (λ l. l ++ drop a t) (append-nil (take a t)) ∙ take-append-drop a t
+
+-- at one place
+spliced_none : (t : List ℕ) (o : Option ℕ) (limit : ℕ) → nat_lt limit (units Utf8 t) ≡ false
+    → spliced t o o [] limit
+    ≡ (if is_none o then Err rules.POSITION_INSIDE_CHARACTER else Ok t)
+spliced_none t None limit fits = refl
+spliced_none t (Some a) limit fits =
+    ap (λ (b : Bool). cond b (Err rules.RANGE_REVERSED) (limited limit (take a t ++ [] ++ drop a t)))
+    (not_less a)
+    ∙ ap (limited limit) (splice_none t a)
+    ∙ ap (λ (b : Bool). cond b (Err rules.DOCUMENT_OVER_LIMIT) (Ok t)) fits
+  where
+    not_less : (n : ℕ) → nat_lt n n ≡ false
+    not_less n = grind (arith, nat_tests)
+
+-- so of a position it is told whether it lies inside a character
+pub replaced_none : (enc : Encoding) (t : List ℕ) (p : Position) (limit : ℕ)
+    → nat_lt limit (units Utf8 t) ≡ false
+    → replaced enc t (record { first = p; second = p }) [] limit
+    ≡ (if is_none (place_of enc t p) then Err rules.POSITION_INSIDE_CHARACTER else Ok t)
+replaced_none enc t p limit fits = spliced_none t (place_of enc t p) limit fits
+
+-- and whether it is past the end
+pub past_once : (enc : Encoding) (t : List ℕ) (p : Position)
+    → past_of enc t (record { first = p; second = p }) ≡ past_by p (text_extent enc t p)
+past_once enc t p = same (past_by p (text_extent enc t p))
+  where
+    same : (o : Option PastEnd) → option_or o o ≡ o
+    same None = refl
+    same (Some x) = refl
+
+or_false : (b : Bool) → (b || false) ≡ b
+or_false true = refl
+or_false false = refl
+
+or_true : (b : Bool) → (b || true) ≡ true
+or_true true = refl
+or_true false = refl
+
+-- the replacement is made
+pub outside_made : (enc : Encoding) (t u : List ℕ) (p : Position) (past : Bool)
+    (r : Result (List ℕ) ℕ)
+    → r ≡ (if is_none (place_of enc t p) then Err rules.POSITION_INSIDE_CHARACTER else Ok t)
+    → r ≡ Ok u → past ≡ is_past p (text_extent enc t p) → past ≡ is_outside enc p t
+outside_made enc t u p past r is made past_is =
+    past_is ∙ by_place (is_none (place_of enc t p)) refl
+  where
+    by_place : (b : Bool) → is_none (place_of enc t p) ≡ b
+        → is_past p (text_extent enc t p) ≡ is_outside enc p t
+    by_place true none =
+        let refused : Err rules.POSITION_INSIDE_CHARACTER ≡ Ok u =
+        sym (ap (λ (b : Bool). if b then Err rules.POSITION_INSIDE_CHARACTER else Ok t) none)
+        ∙ sym is ∙ made in absurd (cc refused)
+    by_place false some =
+        sym (ap (λ (b : Bool). is_past p (text_extent enc t p) || b) some
+        ∙ or_false (is_past p (text_extent enc t p)))
+
+-- it is refused
+pub outside_refused : (enc : Encoding) (t : List ℕ) (p : Position) (rule : ℕ)
+    (r : Result (List ℕ) ℕ)
+    → r ≡ (if is_none (place_of enc t p) then Err rules.POSITION_INSIDE_CHARACTER else Ok t)
+    → r ≡ Err rule → true ≡ is_outside enc p t
+outside_refused enc t p rule r is refused = by_place (is_none (place_of enc t p)) refl
+  where
+    by_place : (b : Bool) → is_none (place_of enc t p) ≡ b → true ≡ is_outside enc p t
+    by_place true none =
+        sym (ap (λ (b : Bool). is_past p (text_extent enc t p) || b) none
+        ∙ or_true (is_past p (text_extent enc t p)))
+    by_place false some =
+        let made : Ok t ≡ Err rule =
+        sym (ap (λ (b : Bool). if b then Err rules.POSITION_INSIDE_CHARACTER else Ok t) some)
+        ∙ sym is ∙ refused in absurd (cc made)
+
+-- ---- edits from the last to the first
+
+-- one more
+pub placed-view : (done : List Change) (one : Change) (n : ℕ)
+    → n ≡ prefix_len (λ (c : Change). precedes one.span c.span) done
+    → edits_of (insert done n one) ≡ placed (edits_of done) (edit_of one)
+placed-view done one n is =
+    let test = λ (e : Edit). precedes one.span e.span in
+    insert-view n ∙ ap (λ k. insert (edits_of done) k (edit_of one))
+    (is ∙ sym (prefix_len-map edit_of test done))
+  where
+    insert-view : (k : ℕ) → edits_of (insert done k one)
+        ≡ insert (edits_of done) k (edit_of one)
+    insert-view k =
+        map-append edit_of (take k done) (one ∷ drop k done)
+        ∙ (λ j. sym (take-map edit_of k done) j ++ edit_of one ∷ sym (drop-map edit_of k done) j)
+
+-- ---- those that are small enough
+
+large_so : (size : ℕ) → most_size < size → false ≡ not (nat_lt most_size size)
+large_so size large = grind (arith, nat_tests)
+
+fits_so : (size left : ℕ) → left + size ≡ most_size → true ≡ not (nat_lt most_size size)
+fits_so size left is = grind (arith, nat_tests)
+
+-- there is room for them
+pub small_edits : (size : ℕ) (left : Option ℕ)
+    → MatchOption left (most_size < size) (λ l. l + size ≡ most_size)
+    → is_some left ≡ not (nat_lt most_size size)
+small_edits size None large = large_so size large
+small_edits size (Some l) is = fits_so size l is
+
+-- there are none
+pub none_held : (edits : List Change) → length edits ≡ 0 → false ≡ are_held (edits_of edits)
+none_held [] none = refl
+none_held (e ∷ edits) none = absurd (cc none)
+
+-- there are some
+pub some_held : (edits : List Change) → 0 < length edits
+    → not (nat_lt most_size (edits_size (edits_of edits))) ≡ are_held (edits_of edits)
+some_held [] some = absurd (omega arith)
+some_held (e ∷ edits) some = refl
+
+-- ---- a text whose size is the limit
+
+pub fits_itself : (t : List ℕ) (limit : ℕ) → limit ≡ units Utf8 t
+    → nat_lt limit (units Utf8 t) ≡ false
+fits_itself t limit is = ap (λ n. nat_lt n (units Utf8 t)) is ∙ not_below (units Utf8 t)
+  where
+    not_below : (n : ℕ) → nat_lt n n ≡ false
+    not_below n = grind (arith, nat_tests)
+
+pub no_characters : chars [] ≡ []
+unfolding chars
+no_characters = refl
+
+-- ---- texts, as they are gathered
+
+-- one more
+pub text_more : (texts : List Counted) (t : Counted) (u : Text) (o : Option Text)
+    → t.content ≡ u → Some u ≡ o
+    → contents (texts ++ t ∷ []) ≡ contents texts ++ cons_option o []
+text_more texts t u o is at =
+    map-append (λ (c : Counted). c.content) texts (t ∷ [])
+    ∙ ap (λ w. contents texts ++ w ∷ []) is
+    ∙ ap (λ w. contents texts ++ cons_option w []) at
+
+-- whether one is known, as it is lent
+lent_text : (lent : Option (Bor Counted)) (o : Option Text)
+    → option_map (λ (s : Bor Counted). s.now.content) lent ≡ o
+    → is_some o ≡ is_some lent
+lent_text None o is = sym (ap is_some is)
+lent_text (Some s) o is = sym (ap is_some is)
+
+module _ (kept : List Version) (v : Option Version) (number : ℤ) (lent : Option (Bor Counted))
+    (at : option_map (λ (s : Bor Counted). s.now.content) lent ≡ text_at number kept v)
+    (none : Bool) (some_is : is_some lent ≡ not none) where
+  abbrev all_texts : List Text
+  all_texts = texts_at kept v (not_below number (numbers_of (kept ++ option_to_list v)))
+
+  pub unknown_texts : none ≡ true → None ≡ texts_in kept v number
+  unknown_texts is =
+      sym (ap (λ (b : Bool). if b then Some all_texts else None)
+      (lent_text lent (text_at number kept v) at ∙ some_is ∙ ap not is))
+
+  pub known_texts : none ≡ false → (texts : List Text) → texts ≡ all_texts
+      → Some texts ≡ texts_in kept v number
+  known_texts is texts are =
+      ap Some are
+      ∙ sym (ap (λ (b : Bool). if b then Some all_texts else None)
+      (lent_text lent (text_at number kept v) at ∙ some_is ∙ ap not is))
+
+-- an item that is there, whatever stands for one that is not
+pub get_or_any : (ns : List ℤ) (i : ℕ) (d : ℤ) → i < length ns
+    → get_or ns i d ≡ get_or ns i (get_or ns i d)
+get_or_any [] i d lt = absurd (omega arith)
+get_or_any (n ∷ ns) zero d lt = refl
+get_or_any (n ∷ ns) (suc i) d lt = get_or_any ns i d (omega arith)
+
+-- the text at one more number
+pub texts_next : (kept : List Version) (v : Option Version) (version : ℤ) (numbers : List ℤ)
+    (i : ℕ) (n : ℤ) (whole done new : List Text) → i < length numbers → n ≡ get_or numbers i n
+    → whole ≡ done ++ texts_at kept v (not_below version (drop i numbers))
+    → new ≡ done ++ texts_at kept v (not_below version (n ∷ []))
+    → whole ≡ new ++ texts_at kept v (not_below version (drop (i + 1) numbers))
+texts_next kept v version numbers i n whole done new lt is so more =
+    let rest = drop (i + 1) numbers in
+    let of : List ℤ → List Text = λ ns. texts_at kept v (not_below version ns) in
+    let split : of (n ∷ rest) ≡ of (n ∷ []) ++ of rest =
+    ap (texts_at kept v) (filter-append (λ (m : ℤ). not (int_lt m version)) (n ∷ []) rest)
+    ∙ filter_map-append (λ (m : ℤ). text_at m kept v) (not_below version (n ∷ []))
+    (not_below version rest) in
+    so
+    ∙ ap (λ ns. done ++ of ns)
+    (drop_more numbers i n lt ∙ ap (λ m. m ∷ rest) (sym is))
+    ∙ ap (λ l. done ++ l) split
+    ∙ sym (append_assoc done (of (n ∷ [])) (of rest))
+    ∙ ap (λ l. l ++ of rest) (sym more)
+
+-- ---- a range
+
+-- its first position that fits
+pub first_end : (f : Position → Bool) (p q : Position) → f p ≡ true
+    → Some p ≡ find f (p ∷ q ∷ [])
+first_end f p q is = sym (ap (λ (b : Bool). if b then Some p else find f (q ∷ [])) is)
+
+pub second_end : (f : Position → Bool) (p q : Position) → f p ≡ false → f q ≡ true
+    → Some q ≡ find f (p ∷ q ∷ [])
+second_end f p q first is =
+    sym (ap (λ (b : Bool). if b then Some p else find f (q ∷ [])) first
+    ∙ ap (λ (b : Bool). if b then Some q else None) is)
+
+pub no_end : (f : Position → Bool) (p q : Position) → f p ≡ false → f q ≡ false
+    → None ≡ find f (p ∷ q ∷ [])
+no_end f p q first also =
+    sym (ap (λ (b : Bool). if b then Some p else find f (q ∷ [])) first
+    ∙ ap (λ (b : Bool). if b then Some q else None) also)

@@ -1,0 +1,754 @@
+-- Which edits and versions of documents the server sends, with one event more.
+use Rattle.std.specs.Borrow.{Bor}
+use Rattle.std.specs.Global.{Global}
+use Rattle.std.specs.Prelude.{is_some, option_and_then, option_map, option_to_list, unwrap_or}
+use Rattle.std.specs.Prelude.{if◌then◌else◌, codes, get_or, take, ℤ, String}
+use Rattle.std.specs.List.{cons_option, filter_map}
+use Rattle.std.proofs.Common.{◌≡◌, ◌<◌, ◌+◌, ℕ, length, map, Bool, true, false, List, [], ◌∷◌, ◌++◌, Option, Some, None}
+use Rattle.std.proofs.Common.{refl, sym, ap, ◌∙◌, subst, append-nil, append_assoc, arith}
+use Rattle.std.proofs.lemmas.List.{map-append, take_more}
+use Rattle.std.proofs.lemmas.List.Elements.{filter_map-append}
+use Rattle.serde_json.specs.Data.{Data}
+use Rattle.serde_json.specs.declared.value.Value.{Value}
+use Rattle.lsp_docs.specs.Calls.{Call, opens, changes, closes, saves, shows}
+use Rattle.lsp_docs.specs.Documents.{Terms}
+use Rattle.lsp_docs.specs.Taken.{call_view}
+use Rattle.lsp_docs.specs.declared.call.Call as calling
+use Rattle.lsp_docs.specs.declared.call.Call.TheVariants as saying
+use Rattle.lsp_rpc.specs.Ident.{Ident}
+use Rattle.lsp_rpc.specs.Message.{Message, request, notification, response}
+use Rattle.lsp_rpc.specs.Message.{Reply, result, error}
+use Rattle.lsp_rpc.specs.Outline.{outline}
+use Rattle.lsp_rpc.specs.Params.{act_at}
+use Rattle.lsp_rpc.specs.Reading as rpc
+use Rattle.lsp_rpc.specs.Shape.{member}
+use Rattle.lsp_rpc.specs.View.{message_view}
+use Rattle.lsp_rpc.specs.declared.act.Spoken.{Spoken}
+use Rattle.lsp_rpc.specs.declared.message.Answer.{Answer}
+use Rattle.lsp_rpc.specs.declared.message.Answer.TheVariants as answers
+use Rattle.lsp_rpc.specs.declared.message.Id.{Id}
+use Rattle.lsp_rpc.specs.declared.message.Message as lent
+use Rattle.lsp_rpc.specs.declared.message.Message.TheVariants as lents
+use Rattle.lsp_session.specs.Negotiation.{encoding, sync_kind}
+use Rattle.lsp_types.specs.declared.change.Change.{Change}
+use Rattle.lsp_types.specs.declared.change.SyncKind.{SyncKind}
+use Rattle.lsp_types.specs.declared.change.SyncKind.TheVariants.{Nothing}
+use Rattle.lsp_types.specs.declared.position.Encoding.{Encoding}
+use Rattle.lsp_types.specs.declared.position.Encoding.TheVariants.{Utf16}
+use Rattle.lsp_text.specs.Edits.{Edit}
+use Rattle.lsp_types.specs.declared.side.Side.{Side}
+use Rattle.lsp_types.specs.declared.side.Side.TheVariants.{Editor, Server}
+use Rattle.lsp_verdict.specs.Event.{Event, call_at, fault, message, sent_in, sent_of, snapshot}
+use Rattle.lsp_verdict.specs.Heard.{Heard, heard_events}
+use Rattle.lsp_verdict.specs.LookBack.{each_of}
+use Rattle.lsp_verdict.specs.Offences.{kept_of, rule_at, said_at}
+use Rattle.lsp_verdict.specs.Placed.{Raw, Reads, broken, content, show}
+use Rattle.lsp_verdict.proofs.LookBackLemmas.{each_of-snoc}
+use Rattle.lsp_replay.specs.Lines.{place_of}
+use Rattle.lsp_replay.specs.Telling.{IsSpoken, kept_before, rule_of}
+use Rattle.lsp_replay.specs.declared.heard.EventPlace.{EventPlace}
+use Rattle.lsp_replay.proofs.Seeing.{events-push}
+use Rattle.lsp_outline.specs.Named.{named_in}
+use Rattle.lsp_outline.specs.Versions.{versioned_at}
+use Rattle.lsp_explain.specs.DocumentNotes.{DocumentNote, document_note, first_notes}
+use Rattle.lsp_explain.specs.DocumentNotes.{is_noted, notes_view, with_note}
+use Rattle.lsp_explain.specs.EditRequests.{EditRequest, Holds, edit_requests, event_request}
+use Rattle.lsp_explain.specs.EditRequests.{edit_request, is_formatting, is_rename, most_requests}
+use Rattle.lsp_explain.specs.EditRequests.{request_of, request_view}
+use Rattle.lsp_explain.specs.History.{last_ones, last_that, on_document, with_room}
+use Rattle.lsp_explain.specs.LateEdits.{HoldsLate, LateAnswer, is_since, late_view, lates_view}
+use Rattle.lsp_explain.specs.LateEdits.{most_late, words_if_late, words_since}
+use Rattle.lsp_explain.specs.Marking.{last_setter, recent, steps}
+use Rattle.lsp_explain.specs.Naming.{diagnosed_in, is_diagnostics, params_of}
+use Rattle.lsp_explain.specs.Refusals.{is_request}
+use Rattle.lsp_explain.specs.ServerEdits.{AreServerEdits, Edited, NotesBy, all_noted, calls_with}
+use Rattle.lsp_explain.specs.ServerEdits.{edited_at, edited_at_place, edited_by_side}
+use Rattle.lsp_explain.specs.ServerEdits.{edited_in_message, flat_from, flat_of, in_diagnostics}
+use Rattle.lsp_explain.specs.ServerEdits.{last_answers, late_answer_at}
+use Rattle.lsp_explain.specs.ServerEdits.{late_at, late_by, noted_at, outside_note, overlap_note}
+use Rattle.lsp_explain.specs.ServerEdits.{edited_view, encoding_with, late_in, note_on}
+use Rattle.lsp_explain.specs.ServerEdits.{answered, edit_in, in_answer}
+use Rattle.lsp_explain.specs.ServerEdits.{in_request, in_whole}
+use Rattle.lsp_explain.specs.ServerEdits.{Sight, outside_in, overlap_in, sight, sight_of}
+use Rattle.lsp_explain.specs.ServerEdits.{texts_of, unsent_note, uris_with, with_notes}
+use Rattle.lsp_explain.specs.declared.notes.edit_requests.EditRequest as code
+use Rattle.lsp_explain.specs.declared.notes.edited.Edited as seen
+use Rattle.lsp_explain.specs.declared.notes.late_edits.LateAnswer as answer
+use Rattle.lsp_explain.specs.declared.notes.server_edits.ServerEdits.{ServerEdits}
+use Rattle.lsp_explain.specs.declared.trail.mark.VersionEvent.{VersionEvent}
+use Rattle.lsp_explain.proofs.DocumentNoting.{first_notes_with}
+use Rattle.lsp_explain.proofs.History.{held-push, kept_more}
+use Rattle.lsp_explain.proofs.NamedDocuments.{names_so}
+use Rattle.lsp_explain.proofs.Standard.{on_document as said_on}
+
+-- ---- lists that are made of all events
+
+flat_from-snoc : {A X : Type 0} (f : List A → A → List X) (before after : List A) (x : A)
+    → flat_from f before (after ++ x ∷ []) ≡ flat_from f before after ++ f (before ++ after) x
+flat_from-snoc f before [] x =
+    append-nil (f before x) ∙ ap (λ (l : List _). f l x) (sym (append-nil before))
+flat_from-snoc f before (y ∷ after) x =
+    let rest = flat_from f (before ++ y ∷ []) after in
+    ap (λ l. f before y ++ l) (flat_from-snoc f (before ++ y ∷ []) after x)
+    ∙ ap (λ (l : List _). f before y ++ (rest ++ f l x)) (append_assoc before (y ∷ []) after)
+    ∙ sym (append_assoc (f before y) rest (f (before ++ y ∷ after) x))
+
+flat_of-snoc : {A X : Type 0} (f : List A → A → List X) (xs : List A) (x : A)
+    → flat_of f (xs ++ x ∷ []) ≡ flat_of f xs ++ f xs x
+flat_of-snoc f xs x = flat_from-snoc f [] xs x
+
+-- **what is written of these notes is known with more**
+pub first_notes_all : (xs more : List DocumentNote)
+    → first_notes (xs ++ more) ≡ with_notes (first_notes xs) more
+first_notes_all xs [] = ap first_notes (append-nil xs)
+first_notes_all xs (n ∷ more) =
+    ap first_notes (sym (append_assoc xs (n ∷ []) more))
+    ∙ first_notes_all (xs ++ n ∷ []) more
+    ∙ ap (λ l. with_notes l more) (first_notes_with xs (Some n))
+
+-- ---- one event more
+
+module _ (terms : Terms) (events : List Event) (e : Event)
+    (kept_here : rule_at terms events e ≡ None) where
+  abbrev here : EventPlace
+  here = place_of events e
+
+  edited_is : (es : List Edited) → edited_at_place terms events e here (sent_of e) ≡ es
+      → edited_at terms events e ≡ es
+  edited_is es is =
+      ap (λ (r : Option ℕ). if is_some r then []
+      else edited_at_place terms events e here (sent_of e)) kept_here ∙ is
+
+  late_is : (o : Option DocumentNote)
+      → option_and_then (late_by terms events (calls_with terms events e) here)
+      (said_at terms events e) ≡ o → late_at terms events e ≡ o
+  late_is o is =
+      ap (λ (r : Option ℕ). if is_some r then None
+      else option_and_then (late_by terms events (calls_with terms events e) here)
+      (said_at terms events e)) kept_here ∙ is
+
+  all_more : {X : Type 0}
+      (f : Terms → List Event → Event → EventPlace → Edited → Option X) (es : List Edited)
+      → edited_at_place terms events e here (sent_of e) ≡ es
+      → all_noted f terms (events ++ e ∷ [])
+      ≡ all_noted f terms events ++ filter_map (f terms events e here) es
+  all_more f es is =
+      flat_of-snoc (noted_at f terms) events e
+      ∙ ap (λ l. all_noted f terms events ++ filter_map (f terms events e here) l) (edited_is es is)
+
+  notes_more : (f : Terms → List Event → Event → EventPlace → Edited → Option DocumentNote)
+      (es : List Edited) → edited_at_place terms events e here (sent_of e) ≡ es
+      → (old new : List DocumentNote) → old ≡ first_notes (all_noted f terms events)
+      → new ≡ with_notes old (filter_map (f terms events e here) es)
+      → new ≡ first_notes (all_noted f terms (events ++ e ∷ []))
+  notes_more f es is old new are more =
+      more
+      ∙ ap (λ l. with_notes l (filter_map (f terms events e here) es)) are
+      ∙ sym (first_notes_all (all_noted f terms events) (filter_map (f terms events e here) es))
+      ∙ ap first_notes (sym (all_more f es is))
+
+  -- **what is held stands for it too**
+  pub edits_more : (old new : ServerEdits) (asked : Option EditRequest) (es : List Edited)
+      (late : Option DocumentNote) → AreServerEdits terms old events
+      → event_request here (kept_of terms events) e ≡ asked
+      → edited_at_place terms events e here (sent_of e) ≡ es
+      → option_and_then (late_by terms events (calls_with terms events e) here)
+      (said_at terms events e) ≡ late
+      → Holds (cons_option asked []) old.asked.items new.asked.items
+      → HoldsLate (filter_map (late_answer_at terms events e here) es) old.late.items new.late.items
+      → notes_view new.late_edits.items ≡ with_note (notes_view old.late_edits.items) late
+      → notes_view new.outside.items ≡ with_notes (notes_view old.outside.items)
+      (filter_map (outside_note terms events e here) es)
+      → notes_view new.overlaps.items ≡ with_notes (notes_view old.overlaps.items)
+      (filter_map (overlap_note terms events e here) es)
+      → notes_view new.unsent.items ≡ with_notes (notes_view old.unsent.items)
+      (filter_map (unsent_note terms events e here) es)
+      → AreServerEdits terms new (events ++ e ∷ [])
+  edits_more old new asked es late are asks_it has_it late_it holds holds_late lates outsides
+      overlapping unsents = record {
+        asked_are =
+            holds (edit_requests terms events) are.asked_are
+            ∙ ap (last_ones most_requests) (sym (kept_more event_request terms events e here asked
+            kept_here refl asks_it));
+        late_are =
+            holds_late (all_noted late_answer_at terms events) are.late_are
+            ∙ ap (last_ones most_late) (sym (all_more late_answer_at es has_it));
+        late_edits_are =
+            lates
+            ∙ ap (λ l. with_note l late) are.late_edits_are
+            ∙ sym (first_notes_with (each_of (late_at terms) events) late)
+            ∙ ap (λ (o : Option DocumentNote). first_notes
+            (each_of (late_at terms) events ++ cons_option o [])) (sym (late_is late late_it))
+            ∙ sym (ap first_notes (each_of-snoc (late_at terms) events e));
+        outside_are = notes_more outside_note es has_it _ _ are.outside_are outsides;
+        overlaps_are = notes_more overlap_note es has_it _ _ are.overlaps_are overlapping;
+        unsent_are = notes_more unsent_note es has_it _ _ are.unsent_are unsents;
+      }
+
+-- ---- what is held of requests
+
+-- nothing more
+pub none_asked : (o : Option EditRequest) (kept : List code.EditRequest) → o ≡ None
+    → Holds (cons_option o []) kept kept
+none_asked o kept none = λ rs are.
+    are
+    ∙ ap (last_ones most_requests) (sym (append-nil rs))
+    ∙ ap (λ (w : Option EditRequest). last_ones most_requests (rs ++ cons_option w [])) (sym none)
+
+-- one more
+pub one_asked : (r : code.EditRequest) (old new : List code.EditRequest)
+    → new ≡ with_room most_requests old ++ r ∷ []
+    → Holds (request_view r ∷ []) old new
+one_asked r old new pushed = λ rs are.
+    let some : 0 < most_requests = omega arith in
+    held-push request_view most_requests old new r rs some pushed are
+
+-- a request that is lent, as it is seen
+pub asked_on : (o : Option (Bor code.EditRequest))
+    → option_map (λ (r : Bor code.EditRequest). request_view r.now) o
+    ≡ option_map request_view (option_map (λ (r : Bor code.EditRequest). r.now) o)
+asked_on None = refl
+asked_on (Some r) = refl
+
+-- ---- what is held of answers
+
+pub none_late : (o : Option LateAnswer) (kept : List answer.LateAnswer) → o ≡ None
+    → HoldsLate (cons_option o []) kept kept
+none_late o kept none = λ answers are.
+    are
+    ∙ ap (last_ones most_late) (sym (append-nil answers))
+    ∙ ap (λ (w : Option LateAnswer). last_ones most_late (answers ++ cons_option w [])) (sym none)
+
+pub one_late : (o : Option LateAnswer) (a : answer.LateAnswer) (old new : List answer.LateAnswer)
+    → o ≡ Some (late_view a) → new ≡ with_room most_late old ++ a ∷ []
+    → HoldsLate (cons_option o []) old new
+one_late o a old new is pushed = λ answers are.
+    let some : 0 < most_late = omega arith in
+    held-push late_view most_late old new a answers some pushed are
+    ∙ ap (λ (w : Option LateAnswer). last_ones most_late (answers ++ cons_option w [])) (sym is)
+
+-- an answer that is lent, as it is seen
+pub late_on : (o : Option (Bor answer.LateAnswer))
+    → option_map (λ (a : Bor answer.LateAnswer). late_view a.now) o
+    ≡ option_map late_view (option_map (λ (a : Bor answer.LateAnswer). a.now) o)
+late_on None = refl
+late_on (Some a) = refl
+
+-- these and those behind them
+late_joined : (xs ys : List LateAnswer) (old mid new : List answer.LateAnswer)
+    → HoldsLate xs old mid → HoldsLate ys mid new → HoldsLate (xs ++ ys) old new
+late_joined xs ys old mid new first second = λ answers are.
+    second (answers ++ xs) (first answers are)
+    ∙ ap (last_ones most_late) (append_assoc answers xs ys)
+
+-- ---- what a message has for several documents
+
+notes_joined : (old mid new xs ys : List DocumentNote) → mid ≡ with_notes old xs
+    → new ≡ with_notes mid ys → new ≡ with_notes old (xs ++ ys)
+notes_joined old mid new xs ys first second =
+    second ∙ ap (λ l. with_notes l ys) first ∙ sym (with_notes-append old xs ys)
+  where
+    with_notes-append : (notes xs ys : List DocumentNote)
+        → with_notes notes (xs ++ ys) ≡ with_notes (with_notes notes xs) ys
+    with_notes-append notes [] ys = refl
+    with_notes-append notes (x ∷ xs) ys = with_notes-append (with_note notes (Some x)) xs ys
+
+-- **for these, and for one more**
+pub notes_by_more : (terms : Terms) (before : List Event) (event : Event) (es : List Edited)
+    (e : Edited) (old mid new : ServerEdits) → NotesBy terms before event es old mid
+    → NotesBy terms before event (e ∷ []) mid new
+    → NotesBy terms before event (es ++ e ∷ []) old new
+notes_by_more terms before event es e old mid new first second =
+    let p = place_of before event in
+    let late = late_answer_at terms before event p in
+    let outside = outside_note terms before event p in
+    let overlap = overlap_note terms before event p in
+    let unsent = unsent_note terms before event p in
+    record {
+      asked = second.asked ∙ first.asked;
+      late_more = λ answers are.
+          late_joined (filter_map late es) (filter_map late (e ∷ [])) old.late.items
+          mid.late.items new.late.items first.late_more second.late_more answers are
+          ∙ ap (λ l. last_ones most_late (answers ++ l))
+          (sym (filter_map-append late es (e ∷ [])));
+      late_edits = second.late_edits ∙ first.late_edits;
+      outside_more = joined outside (notes_view old.outside.items) (notes_view mid.outside.items)
+          (notes_view new.outside.items) first.outside_more second.outside_more;
+      overlaps_more = joined overlap (notes_view old.overlaps.items)
+          (notes_view mid.overlaps.items) (notes_view new.overlaps.items) first.overlaps_more
+          second.overlaps_more;
+      unsent_more = joined unsent (notes_view old.unsent.items) (notes_view mid.unsent.items)
+          (notes_view new.unsent.items) first.unsent_more second.unsent_more;
+    }
+  where
+    joined : (f : Edited → Option DocumentNote) (was then_ now : List DocumentNote)
+        → then_ ≡ with_notes was (filter_map f es)
+        → now ≡ with_notes then_ (filter_map f (e ∷ []))
+        → now ≡ with_notes was (filter_map f (es ++ e ∷ []))
+    joined f was then_ now one two =
+        notes_joined was then_ now (filter_map f es) (filter_map f (e ∷ [])) one two
+        ∙ ap (with_notes was) (sym (filter_map-append f es (e ∷ [])))
+
+-- for none
+pub notes_by_none : (terms : Terms) (before : List Event) (event : Event) (s : ServerEdits)
+    → NotesBy terms before event [] s s
+notes_by_none terms before event s = record {
+  asked = refl;
+  late_more = λ answers are. are ∙ ap (last_ones most_late) (sym (append-nil answers));
+  late_edits = refl;
+  outside_more = refl;
+  overlaps_more = refl;
+  unsent_more = refl;
+}
+
+-- where there are none
+pub none_in : {A : Type 0} (xs : List A) → length xs ≡ 0 → xs ≡ []
+none_in [] none = refl
+none_in (x ∷ xs) none = absurd (omega arith)
+
+-- ---- a message that says nothing of a document
+
+module _ (terms : Terms) (before : List Heard) (h : Heard) (old : ServerEdits)
+    (are : AreServerEdits terms old (heard_events before)) (kept_here : rule_of terms before h ≡ None)
+    (says : said_at terms (heard_events before) h.note.event ≡ None)
+    (p : EventPlace) (at : p ≡ place_of (heard_events before) h.note.event)
+    (side by : Side) (bytes : List ℕ)
+    (s : Spoken) (reads : Reads (content side bytes) h.note.event)
+    (spoken : IsSpoken (kept_before terms before) h.note.event by s) (new : ServerEdits) where
+  abbrev earlier : List Event
+  earlier = heard_events before
+
+  abbrev told : Event
+  told = h.note.event
+
+  abbrev said : Message
+  said = spoken.sent.message
+
+  own_side : spoken.sent.side ≡ side
+  own_side = (subst (λ (x : Event). Reads (content side bytes) x) spoken.is reads).by
+
+  pub own_reads : rpc.Reads bytes said
+  own_reads = (subst (λ (x : Event). Reads (content side bytes) x) spoken.is reads).reads
+
+  asks_as : (sender : Side) → side ≡ sender
+      → event_request (place_of earlier told) (kept_of terms earlier) told ≡ request_of p sender said
+  asks_as sender is =
+      ap (λ (q : EventPlace). event_request q (kept_of terms earlier) told) (sym at)
+      ∙ ap (λ (x : Event). event_request p (kept_of terms earlier) x) spoken.is
+      ∙ ap (λ (x : Side). request_of p x said) (own_side ∙ is)
+
+  has_as : (sender : Side) → side ≡ sender
+      → edited_at_place terms earlier told (place_of earlier told) (sent_of told)
+      ≡ edited_by_side terms earlier (uris_with terms earlier told) p sender said
+  has_as sender is =
+      ap (λ (q : EventPlace). edited_at_place terms earlier told q (sent_of told)) (sym at)
+      ∙ ap (λ (x : Event). edited_at_place terms earlier told p (sent_of x)) spoken.is
+      ∙ ap (λ (x : Side). edited_by_side terms earlier (uris_with terms earlier told) p x said)
+      (own_side ∙ is)
+
+  none_said : option_and_then (late_by terms earlier (calls_with terms earlier told)
+      (place_of earlier told)) (said_at terms earlier told) ≡ None
+  none_said = ap (option_and_then (late_by terms earlier (calls_with terms earlier told)
+      (place_of earlier told))) says
+
+  -- **one of the editor**
+  pub edits_asked : side ≡ Editor
+      → ((w : Message) → rpc.Reads bytes w → outline w ≡ outline (message_view s.message)
+      → Holds (cons_option (request_of p Editor w) []) old.asked.items new.asked.items)
+      → new.late ≡ old.late → new.late_edits ≡ old.late_edits → new.outside ≡ old.outside
+      → new.overlaps ≡ old.overlaps → new.unsent ≡ old.unsent
+      → AreServerEdits terms new (heard_events (before ++ h ∷ []))
+  edits_asked is holds late late_edits outside overlapping unsent =
+      subst (AreServerEdits terms new) (sym (events-push before h))
+      (edits_more terms earlier told kept_here old new (request_of p Editor said) [] None are
+      (asks_as Editor is) (has_as Editor is) none_said (holds said own_reads spoken.says)
+      (subst (λ q. HoldsLate [] old.late.items q.items) (sym late)
+      (none_late None old.late.items refl))
+      (ap (λ r. notes_view r.items) late_edits) (ap (λ r. notes_view r.items) outside)
+      (ap (λ r. notes_view r.items) overlapping) (ap (λ r. notes_view r.items) unsent))
+
+  -- **one of the server**
+  pub edits_sent : side ≡ Server
+      → NotesBy terms earlier told
+      (edited_in_message terms earlier (uris_with terms earlier told) p said) old new
+      → AreServerEdits terms new (heard_events (before ++ h ∷ []))
+  edits_sent is by =
+      subst (AreServerEdits terms new) (sym (events-push before h))
+      (edits_more terms earlier told kept_here old new None _ None are
+      (asks_as Server is) (has_as Server is) none_said
+      (subst (λ q. Holds [] old.asked.items q.items) (sym by.asked)
+      (none_asked None old.asked.items refl)) by.late_more
+      (ap (λ r. notes_view r.items) by.late_edits) by.outside_more by.overlaps_more
+      by.unsent_more)
+
+-- ---- an event that says something of a document
+
+notified_asks : (p : EventPlace) (side : Side) (method : List ℕ) (params : Option Data)
+    → request_of p side (notification method params) ≡ None
+notified_asks p Editor method params = refl
+notified_asks p Server method params = refl
+
+notified_has : (terms : Terms) (before : List Event) (uris : List (List ℕ)) (p : EventPlace)
+    (side : Side) (method : List ℕ) (params : Option Data) → is_diagnostics method ≡ false
+    → edited_by_side terms before uris p side (notification method params) ≡ []
+notified_has terms before uris p Editor method params none = refl
+notified_has terms before uris p Server method params none =
+    ap (λ (b : Bool). in_diagnostics p
+    (if b then option_and_then versioned_at params else None)) none
+
+-- it asks for no edits, and has none
+pub record IsQuiet (terms : Terms) (events : List Event) (e : Event) : Type 0 where
+  pub asks_none : event_request (place_of events e) (kept_of terms events) e ≡ None
+  pub has_none : edited_at_place terms events e (place_of events e) (sent_of e) ≡ []
+
+quiet_call : (terms : Terms) (events : List Event) (e : Event) (raw : Raw) (call : Call)
+    → rule_at terms events e ≡ None → Reads raw e → call_at (kept_of terms events) e ≡ Some call
+    → IsQuiet terms events e
+quiet_call terms events (fault side rule) raw call kept reads says = absurd (cc kept)
+quiet_call terms events (snapshot uri version text) raw call kept reads says = record {
+  asks_none = refl;
+  has_none = refl;
+}
+quiet_call terms events (message m) (broken side code) call kept reads says = absurd (cc reads)
+quiet_call terms events (message m) (show uri version text) call kept reads says = absurd (cc reads)
+quiet_call terms events (message m) (content side bytes) call kept reads says =
+    let place = place_of events (message m) in
+    let sents = sent_in (kept_of terms events) in
+    let enc = unwrap_or (encoding sents) Utf16 in
+    let kind = unwrap_or (sync_kind sents) Nothing in
+    let uris = uris_with terms events (message m) in
+    let means : act_at m.side m.message ≡ Some m.act =
+    subst (λ (x : Side). act_at x m.message ≡ Some m.act) (sym reads.by) reads.means in
+    let heard = said_on m.side m.message m.act enc kind call means says in
+    record {
+      asks_none = ap (λ (w : Message). request_of place m.side w) heard.is
+          ∙ notified_asks place m.side heard.method heard.params;
+      has_none = ap (λ (w : Message). edited_by_side terms events uris place m.side w) heard.is
+          ∙ notified_has terms events uris place m.side heard.method heard.params
+          heard.no_diagnostics;
+    }
+
+-- no answer came late, so no change makes its edits
+no_words : (terms : Terms) (made : List Call) (uri : List ℕ) (enc : Encoding)
+    (setters : List VersionEvent) (o : Option VersionEvent) → last_setter setters ≡ o
+    → words_since terms made uri enc setters [] ≡ None
+no_words terms made uri enc setters None is =
+    ap (option_and_then (λ setter. option_and_then
+    (words_if_late terms made uri enc setters setter) (last_that (is_since uri setter) []))) is
+no_words terms made uri enc setters (Some setter) is =
+    ap (option_and_then (λ setter. option_and_then
+    (words_if_late terms made uri enc setters setter) (last_that (is_since uri setter) []))) is
+
+no_late : (terms : Terms) (before : List Event) (made : List Call) (p : EventPlace) (call : Call)
+    → last_answers terms before ≡ [] → late_by terms before made p call ≡ None
+no_late terms before made p (changes enc kind uri number cs) none =
+    ap (λ answers. option_map (document_note (on_document uri p))
+    (words_since terms made uri enc (recent (steps terms uri before)) answers)) none
+    ∙ ap (option_map (document_note (on_document uri p)))
+    (no_words terms made uri enc (recent (steps terms uri before)) _ refl)
+no_late terms before made p (opens uri number text) none = refl
+no_late terms before made p (closes uri) none = refl
+no_late terms before made p (saves uri text) none = refl
+no_late terms before made p (shows uri number text) none = refl
+
+-- **what is held stands for one more that says something of a document**, where this is late by it
+pub edits_called : (terms : Terms) (before : List Heard) (h : Heard) (old new : ServerEdits)
+    (call : Call) (late : Option DocumentNote)
+    → AreServerEdits terms old (heard_events before) → rule_of terms before h ≡ None
+    → Reads h.raw h.note.event → call_at (kept_before terms before) h.note.event ≡ Some call
+    → late_by terms (heard_events before) (calls_with terms (heard_events before) h.note.event)
+    (place_of (heard_events before) h.note.event) call ≡ late
+    → new.asked ≡ old.asked → new.late ≡ old.late
+    → notes_view new.late_edits.items ≡ with_note (notes_view old.late_edits.items) late
+    → new.outside ≡ old.outside → new.overlaps ≡ old.overlaps → new.unsent ≡ old.unsent
+    → AreServerEdits terms new (heard_events (before ++ h ∷ []))
+edits_called terms before h old new call late are kept reads says late_is asked held lates outside
+    overlapping unsent =
+    let events = heard_events before in
+    let e = h.note.event in
+    let quiet = quiet_call terms events e h.raw call kept reads says in
+    subst (AreServerEdits terms new) (sym (events-push before h))
+    (edits_more terms events e kept old new None [] late are quiet.asks_none quiet.has_none
+    (ap (option_and_then (late_by terms events (calls_with terms events e)
+    (place_of events e))) says ∙ late_is)
+    (subst (λ q. Holds [] old.asked.items q.items) (sym asked)
+    (none_asked None old.asked.items refl))
+    (subst (λ q. HoldsLate [] old.late.items q.items) (sym held)
+    (none_late None old.late.items refl))
+    lates (ap (λ r. notes_view r.items) outside) (ap (λ r. notes_view r.items) overlapping)
+    (ap (λ r. notes_view r.items) unsent))
+
+-- where no answer came late
+pub edits_quiet : (terms : Terms) (before : List Heard) (h : Heard) (s : ServerEdits) (call : Call)
+    → AreServerEdits terms s (heard_events before) → rule_of terms before h ≡ None
+    → Reads h.raw h.note.event → call_at (kept_before terms before) h.note.event ≡ Some call
+    → s.late.items ≡ [] → AreServerEdits terms s (heard_events (before ++ h ∷ []))
+edits_quiet terms before h s call are kept reads says none =
+    edits_called terms before h s s call None are kept reads says
+    (no_late terms (heard_events before)
+    (calls_with terms (heard_events before) h.note.event)
+    (place_of (heard_events before) h.note.event) call
+    (sym are.late_are ∙ ap lates_view none)) refl refl refl refl refl refl
+
+-- ---- what a message has for one document
+
+-- one note, or none
+pub one_noted : (notes : List DocumentNote) (o : Option DocumentNote)
+    → with_notes notes (cons_option o []) ≡ with_note notes o
+one_noted notes None = refl
+one_noted notes (Some n) = refl
+
+-- there is one on the document, or no room for one
+pub noted_already : (notes : List DocumentNote) (uri : List ℕ) (p : EventPlace)
+    (words : Option (List ℕ)) → is_noted uri notes ≡ true
+    → notes ≡ with_note notes (option_map (document_note (on_document uri p)) words)
+noted_already notes uri p None is = refl
+noted_already notes uri p (Some own) is =
+    ap (λ (b : Bool). if b then notes else notes ++ document_note (on_document uri p) own ∷ [])
+    (sym is)
+
+-- without edits nothing is looked at
+pub no_edits : (terms : Terms) (before : List Event) (event : Event) (e : Edited)
+    → e.edits ≡ None → sight_of terms before event e ≡ None
+no_edits terms before event e none =
+    ap (option_and_then (λ edits. option_map (λ texts. sight texts edits)
+    (texts_of terms before event e))) none
+
+-- nor where the texts are not known
+pub no_texts : (terms : Terms) (before : List Event) (event : Event) (e : Edited)
+    → texts_of terms before event e ≡ None → sight_of terms before event e ≡ None
+no_texts terms before event e none =
+    ap (λ o. option_and_then (λ edits. option_map (λ texts. sight texts edits) o) e.edits) none
+    ∙ without e.edits
+  where
+    without : (o : Option (List Edit))
+        → option_and_then (λ edits. option_map (λ texts. sight texts edits) None) o ≡ None
+    without None = refl
+    without (Some edits) = refl
+
+pub in_sight : (terms : Terms) (before : List Event) (event : Event) (e : Edited)
+    (edits : List Edit) (texts : List (List ℕ)) → e.edits ≡ Some edits
+    → texts_of terms before event e ≡ Some texts
+    → sight_of terms before event e ≡ Some (sight texts edits)
+in_sight terms before event e edits texts has known =
+    (λ i. option_and_then (λ own. option_map (λ ts. sight ts own) (known i)) (has i))
+
+module _ (terms : Terms) (before : List Event) (event : Event) (e : Edited)
+    (old new : ServerEdits) (asked_same : new.asked ≡ old.asked)
+    (lates_same : new.late_edits ≡ old.late_edits)
+    (unsent_so : notes_view new.unsent.items ≡ with_note (notes_view old.unsent.items)
+    (unsent_note terms before event (place_of before event) e)) where
+  abbrev there : EventPlace
+  there = place_of before event
+
+  notes_as : (o : Option Sight) → sight_of terms before event e ≡ o
+      → HoldsLate (cons_option (option_and_then (late_in e there) o) []) old.late.items
+      new.late.items
+      → notes_view new.outside.items ≡ with_note (notes_view old.outside.items)
+      (option_map (note_on e there)
+      (option_and_then (outside_in (encoding_with terms before event)) o))
+      → notes_view new.overlaps.items ≡ with_note (notes_view old.overlaps.items)
+      (option_map (note_on e there)
+      (option_and_then (overlap_in (encoding_with terms before event)) o))
+      → NotesBy terms before event (e ∷ []) old new
+  notes_as o is holds outsides overlapping =
+      let enc = encoding_with terms before event in
+      record {
+        asked = asked_same;
+        late_more = subst (λ w. HoldsLate (cons_option (option_and_then (late_in e there) w) [])
+            old.late.items new.late.items) (sym is) holds;
+        late_edits = lates_same;
+        outside_more = outsides
+            ∙ ap (λ w. with_note (notes_view old.outside.items)
+            (option_map (note_on e there) (option_and_then (outside_in enc) w))) (sym is)
+            ∙ sym (one_noted (notes_view old.outside.items)
+            (outside_note terms before event there e));
+        overlaps_more = overlapping
+            ∙ ap (λ w. with_note (notes_view old.overlaps.items)
+            (option_map (note_on e there) (option_and_then (overlap_in enc) w))) (sym is)
+            ∙ sym (one_noted (notes_view old.overlaps.items)
+            (overlap_note terms before event there e));
+        unsent_more = unsent_so
+            ∙ sym (one_noted (notes_view old.unsent.items)
+            (unsent_note terms before event there e));
+      }
+
+  -- **its edits are not looked at**
+  pub notes_unseen : sight_of terms before event e ≡ None → new.late ≡ old.late
+      → new.outside ≡ old.outside → new.overlaps ≡ old.overlaps
+      → NotesBy terms before event (e ∷ []) old new
+  notes_unseen is held outside overlapping =
+      notes_as None is
+      (subst (λ q. HoldsLate [] old.late.items q.items) (sym held)
+      (none_late None old.late.items refl))
+      (ap (λ r. notes_view r.items) outside) (ap (λ r. notes_view r.items) overlapping)
+
+  -- **they are**
+  pub notes_seen : (s : Sight) → sight_of terms before event e ≡ Some s
+      → HoldsLate (cons_option (late_in e there s) []) old.late.items new.late.items
+      → notes_view new.outside.items ≡ with_note (notes_view old.outside.items)
+      (option_map (note_on e there) (outside_in (encoding_with terms before event) s))
+      → notes_view new.overlaps.items ≡ with_note (notes_view old.overlaps.items)
+      (option_map (note_on e there) (overlap_in (encoding_with terms before event) s))
+      → NotesBy terms before event (e ∷ []) old new
+  notes_seen s is holds outsides overlapping = notes_as (Some s) is holds outsides overlapping
+
+-- the first of these documents, and one more
+pub notes_taken : (terms : Terms) (before : List Event) (event : Event) (edited : List seen.Edited)
+    (i : ℕ) (one : seen.Edited) (start old new : ServerEdits) → i < length edited
+    → one ≡ get_or edited i one
+    → NotesBy terms before event (map edited_view (take i edited)) start old
+    → NotesBy terms before event (edited_view one ∷ []) old new
+    → NotesBy terms before event (map edited_view (take (i + 1) edited)) start new
+notes_taken terms before event edited i one start old new lt is done more =
+    let whole : map edited_view (take (i + 1) edited)
+    ≡ map edited_view (take i edited) ++ edited_view one ∷ [] =
+    ap (map edited_view) (take_more edited i one lt)
+    ∙ map-append edited_view (take i edited) (get_or edited i one ∷ [])
+    ∙ ap (λ (x : seen.Edited). map edited_view (take i edited) ++ edited_view x ∷ []) (sym is) in
+    subst (λ es. NotesBy terms before event es start new) (sym whole)
+    (notes_by_more terms before event (map edited_view (take i edited)) (edited_view one) start
+    old new done more)
+
+-- ---- what a message of the server has, by its kind
+
+-- a request
+pub has_request : (terms : Terms) (before : List Event) (uris : List (List ℕ)) (p : EventPlace)
+    (m : Message) (id : Ident) (method : List ℕ) → outline m ≡ request id method None
+    → edited_in_message terms before uris p m ≡ in_request uris p method (params_of m)
+has_request terms before uris p (request own name params) id method same =
+    let is : name ≡ method = cc same in
+    ap (λ n. in_request uris p n params) is
+has_request terms before uris p (notification name params) id method same = absurd (cc same)
+has_request terms before uris p (response own (result d)) id method same = absurd (cc same)
+has_request terms before uris p (response own (error code)) id method same = absurd (cc same)
+
+pub is_request_so : (m : Message) (id : Ident) (method : List ℕ)
+    → outline m ≡ request id method None → is_request m ≡ true
+is_request_so (request own name params) id method same = refl
+is_request_so (notification name params) id method same = absurd (cc same)
+is_request_so (response own (result d)) id method same = absurd (cc same)
+is_request_so (response own (error code)) id method same = absurd (cc same)
+
+-- the edit among its params
+pub edit_of_request : (m : Message) → is_request m ≡ true
+    → edit_in m ≡ option_and_then (member (codes "edit")) (params_of m)
+edit_of_request (request own name params) is = refl
+edit_of_request (notification name params) is = absurd (cc is)
+edit_of_request (response own reply) is = absurd (cc is)
+
+-- a notification
+pub has_notification : (terms : Terms) (before : List Event) (uris : List (List ℕ))
+    (p : EventPlace) (m : Message) (method : List ℕ) → outline m ≡ notification method None
+    → in_diagnostics p (diagnosed_in Server m) ≡ edited_in_message terms before uris p m
+has_notification terms before uris p (request own name params) method same = absurd (cc same)
+has_notification terms before uris p (notification name params) method same = refl
+has_notification terms before uris p (response own (result d)) method same = absurd (cc same)
+has_notification terms before uris p (response own (error code)) method same = absurd (cc same)
+
+-- an answer
+pub has_answer : (terms : Terms) (before : List Event) (uris : List (List ℕ)) (p : EventPlace)
+    (m : Message) (id : Option Ident) (reply : Reply) → outline m ≡ response id reply
+    → edited_in_message terms before uris p m ≡ in_whole uris (answered terms before id) m
+has_answer terms before uris p (request own name params) id reply same = absurd (cc same)
+has_answer terms before uris p (notification name params) id reply same = absurd (cc same)
+has_answer terms before uris p (response own (result d)) id reply same =
+    let is : own ≡ id = cc same in
+    ap (λ o. in_answer uris (answered terms before o) (result d)) is
+has_answer terms before uris p (response own (error code)) id reply same =
+    let is : own ≡ id = cc same in
+    ap (λ o. in_answer uris (answered terms before o) (error code)) is
+
+-- to no request that edits answer
+pub none_answered : (uris : List (List ℕ)) (m : Message) → in_whole uris None m ≡ []
+none_answered uris (request own name params) = refl
+none_answered uris (notification name params) = refl
+none_answered uris (response own reply) = refl
+
+-- with an error
+pub error_answered : (uris : List (List ℕ)) (o : Option EditRequest) (m : Message)
+    (id : Option Ident) (code : ℤ) → outline m ≡ response id (error code)
+    → in_whole uris o m ≡ []
+error_answered uris o (request own name params) id code same = absurd (cc same)
+error_answered uris o (notification name params) id code same = absurd (cc same)
+error_answered uris o (response own (result d)) id code same = absurd (cc same)
+error_answered uris None (response own (error c)) id code same = refl
+error_answered uris (Some r) (response own (error c)) id code same = refl
+
+-- ---- what a message of the editor asks for
+
+-- a request of this method, whose params name this document
+abbrev pub request_named : EventPlace → List ℕ → Option (List ℕ) → Option EditRequest
+request_named p method named =
+    if is_rename method then Some (edit_request p None)
+    else (if is_formatting method then option_map (λ uri. edit_request p (Some uri)) named else None)
+
+pub asks_edits : (p : EventPlace) (bytes : List ℕ) (m : Message) (id : Ident) (method : List ℕ)
+    → rpc.Reads bytes m → outline m ≡ request id method None
+    → request_of p Editor m ≡ request_named p method (named_in Editor bytes)
+asks_edits p bytes (request own name params) id method reads same =
+    let is : name ≡ method = cc same in
+    ap (request_named p name) (names_so Editor bytes (request own name params) reads refl)
+    ∙ ap (λ n. request_named p n (named_in Editor bytes)) is
+asks_edits p bytes (notification name params) id method reads same = absurd (cc same)
+asks_edits p bytes (response own (result d)) id method reads same = absurd (cc same)
+asks_edits p bytes (response own (error code)) id method reads same = absurd (cc same)
+
+module _ (p : EventPlace) (method : List ℕ) (named : Option (List ℕ)) where
+  abbrev asked_by : Bool → Bool → Option EditRequest
+  asked_by rename formatting =
+      if rename then Some (edit_request p None)
+      else (if formatting then option_map (λ uri. edit_request p (Some uri)) named else None)
+
+  pub asks_rename : is_rename method ≡ true
+      → request_named p method named ≡ Some (edit_request p None)
+  asks_rename is = ap (λ b. asked_by b (is_formatting method)) is
+
+  pub asks_other : is_rename method ≡ false → is_formatting method ≡ false
+      → request_named p method named ≡ None
+  asks_other no also = λ i. asked_by (no i) (also i)
+
+  pub asks_format : is_rename method ≡ false → is_formatting method ≡ true
+      → request_named p method named ≡ option_map (λ uri. edit_request p (Some uri)) named
+  asks_format no is = λ i. asked_by (no i) (is i)
+
+-- one that is no request
+pub asks_nothing : (p : EventPlace) (m : Message) (said : lent.Message)
+    → outline m ≡ outline (message_view said)
+    → ((id : Id) (method : String Global) (params : Option Value)
+    → said ≡ lents.Request id method params → ⊥)
+    → request_of p Editor m ≡ None
+asks_nothing p m (lents.Request id method params) same not = absurd (not id method params refl)
+asks_nothing p (request own name ps) (lents.Notification method params) same not = absurd (cc same)
+asks_nothing p (notification name ps) (lents.Notification method params) same not = refl
+asks_nothing p (response own reply) (lents.Notification method params) same not = refl
+asks_nothing p (request own name ps) (lents.Response id reply) same not = by_reply reply same
+  where
+    by_reply : (a : Answer) → outline (request own name ps)
+        ≡ outline (message_view (lents.Response id a)) → request_of p Editor (request own name ps) ≡ None
+    by_reply (answers.Result v) is = absurd (cc is)
+    by_reply (answers.Error code) is = absurd (cc is)
+asks_nothing p (notification name ps) (lents.Response id reply) same not = refl
+asks_nothing p (response own re) (lents.Response id reply) same not = refl
+
+-- ---- the lines of the notes
+
+pub four_parts : {A : Type 0} (old a b c d : List A)
+    → (((old ++ a) ++ b) ++ c) ++ d ≡ old ++ (((a ++ b) ++ c) ++ d)
+four_parts old a b c d =
+    ap (λ l. (l ++ c) ++ d) (append_assoc old a b)
+    ∙ ap (λ l. l ++ d) (append_assoc old (a ++ b) c)
+    ∙ append_assoc old ((a ++ b) ++ c) d
+
+-- ---- a call that changes no document
+
+pub late_unchanged : (terms : Terms) (before : List Event) (made : List Call) (p : EventPlace)
+    (call : calling.Call) → ((enc : Encoding) (kind : SyncKind) (uri : Bor (List ℕ)) (number : ℤ)
+    (cs : Bor (List Change)) → call ≡ saying.Changes enc kind uri number cs → ⊥)
+    → late_by terms before made p (call_view call) ≡ None
+late_unchanged terms before made p (saying.Opens uri number text) not = refl
+late_unchanged terms before made p (saying.Changes enc kind uri number cs) not =
+    absurd (not enc kind uri number cs refl)
+late_unchanged terms before made p (saying.Closes uri) not = refl
+late_unchanged terms before made p (saying.Saves uri text) not = refl
+late_unchanged terms before made p (saying.Shows uri number text) not = refl
