@@ -1,5 +1,5 @@
 -- What is kept of an event is what the rules read of it.
-use Rattle.std.proofs.Common.{◌≡◌, ◌⊎◌, ℕ, Bool, true, false, List, [], Option, Some, None, refl, sym, ap}
+use Rattle.std.proofs.Common.{◌≡◌, ◌⊎◌, ℕ, Bool, true, false, List, Option, Some, None, refl, sym, ap}
 use Rattle.std.proofs.Common.{◌∙◌, inl, inr, subst, true≢false}
 use Rattle.std.specs.Prelude.{not, option_map}
 use Rattle.lsp_rpc.specs.Act.{Act}

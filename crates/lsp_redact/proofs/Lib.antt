@@ -10,6 +10,7 @@ pub mod RenamedRequests
 pub mod Numbering
 pub mod Showing
 pub mod RenamedSessions
+pub mod RenamedMessages
 pub mod RenamedEvents
 pub mod ReadBack
 pub mod AccountSteps

@@ -1,5 +1,5 @@
 -- What is written of events none of which is a fault is read as them, shown.
-use Rattle.std.proofs.Common.{◌≡◌, ℕ, List, [], ◌∷◌, ◌++◌, map, Option, refl}
+use Rattle.std.proofs.Common.{ℕ, List, [], ◌∷◌, ◌++◌, map, Option, refl}
 use Rattle.std.specs.List.{AllByRecursion, AllZip}
 use Rattle.lsp_verdict.specs.Event.{Event, fault, message, snapshot}
 use Rattle.lsp_verdict.specs.LookBack.{each_from}

@@ -1,6 +1,6 @@
 -- An event that offends offends by the same rule with its names and its characters replaced, also
 -- where that rule says that two texts differ and they stay apart.
-use Rattle.std.proofs.Common.{◌≡◌, ℕ, true, List, [], ◌∷◌, ◌++◌, map, Option, Some, None}
+use Rattle.std.proofs.Common.{◌≡◌, ℕ, true, List, map, Option, Some, None}
 use Rattle.std.proofs.Common.{refl, ap, ◌∙◌}
 use Rattle.std.specs.Option.{option_and_then, option_or}
 use Rattle.serde_json.specs.Data.{Data}
@@ -16,8 +16,8 @@ use Rattle.lsp_verdict.specs.Event.{Event, call_at, calls, fault, message, sent_
 use Rattle.lsp_verdict.specs.Verdict.{document_rule, offence}
 use Rattle.lsp_redact.proofs.RenamedCalls.{KeepsNames, call_by}
 use Rattle.lsp_redact.proofs.RenamedDifferences.{DifferStill, differs-by}
-use Rattle.lsp_redact.proofs.RenamedEvents.{KeepsMethods, MapsTexts, event_by, rule_in-by, said_rule-by}
-use Rattle.lsp_redact.proofs.RenamedEvents.{sent_to}
+use Rattle.lsp_redact.proofs.RenamedEvents.{event_by, rule_in-by, said_rule-by, sent_to}
+use Rattle.lsp_redact.proofs.RenamedMessages.{KeepsMethods, MapsTexts}
 use Rattle.lsp_redact.proofs.RenamedRequests.{KeepsIds}
 use Rattle.lsp_redact.proofs.RenamedSessions.{KeepsEncodings, KeepsPicks}
 use Rattle.lsp_redact.proofs.Texts.{KeepsTexts}

@@ -1,8 +1,8 @@
 -- Which rule a call breaks stays where names and characters are replaced, unless it says that two
 -- texts differ.
-use Rattle.std.proofs.Common.{◌≡◌, ℕ, ℤ, Bool, true, false, cond, List, [], ◌∷◌, ◌++◌, map, refl, sym}
+use Rattle.std.proofs.Common.{◌≡◌, ℕ, ℤ, Bool, true, false, cond, List, [], ◌∷◌, map, refl, sym}
 use Rattle.std.proofs.Common.{ap, ◌∙◌, Option, Some, None, Result, Ok, Err, true≢false, filter}
-use Rattle.std.specs.Prelude.{not, ◌&&◌, ◌||◌, int_lt, is_some, is_none, nat_lt, ◌==◌}
+use Rattle.std.specs.Prelude.{not, ◌&&◌, ◌||◌, int_lt, is_some, is_none, nat_lt}
 use Rattle.std.specs.List.{list_any, list_all}
 use Rattle.std.specs.Option.{option_map}
 use Rattle.std.specs.Ordering.{int_eq}

@@ -1,5 +1,5 @@
 -- What is shown of names, one after another.
-use Rattle.std.proofs.Common.{◌≡◌, ◌++◌, ◌∷◌, [], List, Option, ℕ, refl, sym, ap, subst, ◌∙◌, append_assoc}
+use Rattle.std.proofs.Common.{◌≡◌, [], List, Option, ℕ, refl, sym, ap, subst, ◌∙◌, append_assoc}
 use Rattle.std.proofs.Common.{append-nil}
 use Rattle.lsp_redact.specs.Names.{Names, joined, no_names}
 use Rattle.lsp_redact.specs.Naming.{Begins, Shows, Stands, Writes}

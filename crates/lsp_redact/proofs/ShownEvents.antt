@@ -43,7 +43,8 @@ use Rattle.lsp_redact.proofs.Numbering.{is_among, same_itself}
 use Rattle.lsp_redact.proofs.ReadActs.{method_tested}
 use Rattle.lsp_redact.proofs.ReadMessages.{message_from, reply_from}
 use Rattle.lsp_redact.proofs.RenamedCalls.{KeepsNames}
-use Rattle.lsp_redact.proofs.RenamedEvents.{KeepsMethods, MapsTexts, act_by, event_by, sent_to}
+use Rattle.lsp_redact.proofs.RenamedEvents.{event_by, sent_to}
+use Rattle.lsp_redact.proofs.RenamedMessages.{KeepsMethods, MapsTexts, act_by}
 use Rattle.lsp_redact.proofs.RenamedRequests.{KeepsIds}
 use Rattle.lsp_redact.proofs.RenamedSessions.{KeepsPicks, offer_by, picked_by}
 use Rattle.lsp_redact.proofs.ShownCharacters.{chars-shown_bytes, keeps_texts}

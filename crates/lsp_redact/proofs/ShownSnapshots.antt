@@ -1,5 +1,5 @@
 -- A snapshot that is shown fits into a record where the snapshot did.
-use Rattle.std.proofs.Common.{◌≡◌, ℕ, ℤ, ◌+◌, ◌^◌, ◌<◌, ◌≤◌, List, [], ◌∷◌, ◌++◌, length, Option, true, decimal}
+use Rattle.std.proofs.Common.{◌≡◌, ℕ, ℤ, ◌+◌, ◌≤◌, List, [], ◌∷◌, length, Option, true, decimal}
 use Rattle.std.proofs.Common.{IsUtf8, refl, sym, ap, ◌∙◌, arith}
 use Rattle.std.specs.Prelude.{◌&&◌, chars, codes, encode_utf8_all, nat_le}
 use Rattle.std.proofs.lemmas.Bool.{and_from, and_parts}

@@ -1,5 +1,5 @@
 -- What is said of a log with its words replaced, up to its verdict.
-use Rattle.std.specs.Prelude.{◌≡◌, ◌==◌, ℕ, List, [], ◌∷◌, ◌++◌, true, Option, Some}
+use Rattle.std.specs.Prelude.{◌≡◌, ◌==◌, ℕ, List, [], ◌++◌, true, Option, Some}
 use Rattle.std.specs.Prelude.{None, is_some, option_and_then, option_to_list}
 use Rattle.std.specs.Prelude.{if◌then◌else◌, map}
 use Rattle.std.specs.List.{flat_map}

@@ -1,4 +1,4 @@
-use Rattle.std.proofs.Common.{◌≡◌, ◌+◌, ◌++◌, ◌∷◌, [], ap, sym, ◌∙◌, drop, length}
+use Rattle.std.proofs.Common.{ap, sym, ◌∙◌, drop, length}
 use Rattle.std.specs.Prelude.{chars}
 use Rattle.std.specs.Str.Iter.{chars_rest}
 use Rattle.std.proofs.lemmas.Iterator.{YieldsList-from_chars}

@@ -1,4 +1,4 @@
-use Rattle.std.proofs.Common.{◌≡◌, ◌∙◌}
+use Rattle.std.proofs.Common.{◌∙◌}
 use Rattle.std.proofs.lemmas.Result.{IfOk-weaker}
 use Rattle.lsp_redact.proofs.Copying.{is_call}
 use Rattle.lsp_redact.proofs.copies.copy_act.Goals as goal

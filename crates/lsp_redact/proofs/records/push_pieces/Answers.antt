@@ -1,4 +1,4 @@
-use Rattle.std.proofs.Common.{◌≡◌, ◌≤◌, max, string_bytes, arith, ◌∙◌}
+use Rattle.std.proofs.Common.{max, string_bytes, arith}
 use Rattle.lsp_redact.proofs.CutTexts.{no_characters_left, pieces_end, pieces_on, some_character}
 use Rattle.lsp_redact.proofs.records.push_pieces.Goals as goal
 

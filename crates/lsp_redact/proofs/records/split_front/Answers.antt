@@ -1,4 +1,4 @@
-use Rattle.std.proofs.Common.{◌≡◌, ◌≤◌, ◌-◌, ℕ, List, ap, subst, sym, ◌∙◌, drop, length, max, take}
+use Rattle.std.proofs.Common.{◌≤◌, ◌-◌, ℕ, List, ap, subst, sym, ◌∙◌, drop, length, max, take}
 use Rattle.std.specs.Iterator.{SkipsThenYields}
 use Rattle.std.specs.Str.{IsCharBoundary}
 use Rattle.std.specs.Str.Iter.{chars_rest, chars_steps}

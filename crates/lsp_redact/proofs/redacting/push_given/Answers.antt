@@ -1,4 +1,4 @@
-use Rattle.std.proofs.Common.{sym, ◌∙◌, ◌∷◌, [], append-nil, map}
+use Rattle.std.proofs.Common.{sym, append-nil, map}
 use Rattle.lsp_redact.specs.View.{kept_view}
 use Rattle.lsp_redact.proofs.redacting.push_given.Goals as goal
 

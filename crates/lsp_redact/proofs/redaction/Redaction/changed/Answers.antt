@@ -1,4 +1,4 @@
-use Rattle.std.proofs.Common.{refl, ◌∙◌, map, w32}
+use Rattle.std.proofs.Common.{refl, map, w32}
 use Rattle.std.proofs.lemmas.Int.{to_z-of_z}
 use Rattle.serde_json.specs.View.{view}
 use Rattle.lsp_rpc.specs.Act.{Text}

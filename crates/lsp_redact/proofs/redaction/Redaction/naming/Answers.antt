@@ -1,4 +1,4 @@
-use Rattle.std.proofs.Common.{refl, ap, ◌∙◌, Some}
+use Rattle.std.proofs.Common.{refl, ap, Some}
 use Rattle.serde_json.specs.Data.{Data}
 use Rattle.lsp_redact.specs.Messages.{one}
 use Rattle.lsp_redact.proofs.Showing.{shows_made}

@@ -1,4 +1,4 @@
-use Rattle.std.proofs.Common.{◌∷◌, [], List, String, Global, map, string_bytes, subst, ap, ◌∙◌}
+use Rattle.std.proofs.Common.{◌∷◌, [], List, String, Global, map, string_bytes, subst, ap}
 use Rattle.std.proofs.lemmas.List.{take_all}
 use Rattle.serde_json.specs.View.{view}
 use Rattle.lsp_rpc.specs.Act.{Text}
