@@ -215,9 +215,10 @@ module _ (terms : Terms) (before : List Heard) (h : Heard) (said : Option Call)
   -- a snapshot
   pub shown_kept : (l : Losses) → AreLosses terms l (notes_of before) → (raw : lent.Raw)
       → h.raw ≡ raw_view raw
-      → ((side : Side) (bytes : Bor (List ℕ)) → raw ≡ lent_as.Content side bytes → ⊥)
+      → ((side : Side) (bytes behind : Bor (List ℕ)) → raw ≡ lent_as.Content side bytes behind → ⊥)
       → WasTold l terms before h false
-  shown_kept l losses (lent_as.Content side bytes) raw not = absurd (not side bytes refl)
+  shown_kept l losses (lent_as.Content side bytes behind) raw not =
+      absurd (not side bytes behind refl)
   shown_kept l losses (lent_as.Broken side code rest) raw not =
       let own = subst (λ (w : Raw). IsNoted w h.note) raw noted in
       absurd (some_none code (sym (ap (offence terms (kept_before terms before)) own.0) ∙ rule))
