@@ -174,9 +174,10 @@ silent (fault side rule) not = refl
 silent (snapshot uri number text) not = refl
 
 pub silent_raw : (raw : code_raw.Raw) (event : Event)
-    → ((side : Side) (bytes : Bor (List ℕ)) → raw ≡ raws.Content side bytes → ⊥)
+    → ((side : Side) (bytes behind : Bor (List ℕ)) → raw ≡ raws.Content side bytes behind → ⊥)
     → Reads (raw_view raw) event → None ≡ diagnosed_at event
-silent_raw (raws.Content side bytes) event not reads = absurd (not side bytes refl)
+silent_raw (raws.Content side bytes behind) event not reads =
+    absurd (not side bytes behind refl)
 silent_raw (raws.Broken side rule rest) (message m) not reads = absurd (cc reads)
 silent_raw (raws.Broken side rule rest) (fault own by) not reads = refl
 silent_raw (raws.Broken side rule rest) (snapshot uri number text) not reads = refl

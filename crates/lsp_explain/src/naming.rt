@@ -41,7 +41,7 @@ pub(crate) fn diagnosed(
         → MaySpeak kept event (option_map (λ s. s.now) spoken.entry)
         → option_map version_view named ≡ diagnosed_at event) }
 {
-    let Raw::Content { side, content } = raw else {
+    let Raw::Content { side, content, .. } = raw else {
         return Ok(None);
     };
     let Some(spoken) = spoken else {

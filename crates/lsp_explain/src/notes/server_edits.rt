@@ -188,7 +188,7 @@ impl ServerEdits {
             → said_at terms (heard_events before) h.note.event ≡ None
             → AreServerEdits terms self.new (heard_events (before ++ h ∷ []))) }
     {
-        let Raw::Content { side, content } = raw else {
+        let Raw::Content { side, content, .. } = raw else {
             return Ok(());
         };
         let Some(spoken) = spoken else {
