@@ -2,6 +2,7 @@ pub mod Offers
 pub mod EndLists
 pub mod FrontLines
 pub mod TextEnds
+pub mod WholeTexts
 pub mod LinePlaces
 pub mod MadeChanges
 pub mod AtEdges

@@ -1,11 +1,16 @@
 -- Where a JSON text ends, byte by byte, and how much of it lies behind a content.
-use Rattle.std.specs.Prelude.{if◌then◌else◌, nat_lt, option_and_then, suc}
+use Rattle.std.specs.Prelude.{if◌then◌else◌, nat_lt, option_and_then, option_map, suc}
+use Rattle.std.specs.Prelude.{MatchResult}
 use Rattle.std.specs.Bool.{then_some}
+use Rattle.std.specs.Result.{result_ok}
+use Rattle.std.specs.Str.{IsUtf8, is_utf8}
 use Rattle.std.proofs.Common.{◌≡◌, ◌+◌, ◌-◌, ◌<◌, ◌≤◌, ℕ, Bool, true, false, List, [], ◌∷◌, ◌++◌}
 use Rattle.std.proofs.Common.{Option, Some, None, refl, sym, ap, ◌∙◌, append-nil, arith, drop, length}
+use Rattle.std.proofs.Common.{Bor, Err, Ok, Result}
 use Rattle.std.proofs.lemmas.Bool.Decides.{nat_tests}
+use Rattle.std.proofs.lemmas.Str.{IsUtf8-from_is_utf8, is_utf8-from_IsUtf8}
 use Rattle.lsp_facts.specs.Grammar.{is_whole, left_open, move_in, to}
-use Rattle.lsp_facts.specs.Whole.{end_at, end_by, end_from, missing, past, text_end}
+use Rattle.lsp_facts.specs.Whole.{end_at, end_by, end_from, if_utf8, missing, past, text_end}
 use Rattle.lsp_facts.specs.declared.grammar.Around.{Around}
 use Rattle.lsp_facts.specs.declared.grammar.Gap.TheVariants as gaps
 use Rattle.lsp_facts.specs.declared.grammar.Move.{Move}
@@ -109,8 +114,30 @@ module _ (content behind : List ℕ) where
           ap (option_and_then (past size)) (goes_at (walks.Ends k) is) ∙ behind_it k some
 
       -- it breaks there, or goes on
-      pub breaks_behind : second ≡ walks.Breaks → missing content behind ≡ None
+      breaks_behind : second ≡ walks.Breaks → missing content behind ≡ None
       breaks_behind is = ap (option_and_then (past size)) (goes_at walks.Breaks is)
 
-      pub open_behind : (p : Place) → second ≡ walks.GoesOn p → missing content behind ≡ None
+      open_behind : (p : Place) → second ≡ walks.GoesOn p → missing content behind ≡ None
       open_behind p is = ap (option_and_then (past size)) (goes_at (walks.GoesOn p) is)
+
+      pub not_behind : ((k : ℕ) → second ≡ walks.Ends k → ⊥) → missing content behind ≡ None
+      not_behind not = by_walk second refl
+        where
+          by_walk : (w : Walk) → second ≡ w → missing content behind ≡ None
+          by_walk (walks.Ends k) is = absurd (not k is)
+          by_walk walks.Breaks is = breaks_behind is
+          by_walk (walks.GoesOn p) is = open_behind p is
+
+-- ---- bytes that may be a text
+
+pub utf8_text : {E : Type 0} (Bad : E → Type 0) (r : Result (Bor (List ℕ)) E) (bytes : List ℕ)
+    → MatchResult r (λ s. (s.now ≡ bytes) × IsUtf8 bytes) (λ e. (IsUtf8 bytes → ⊥) × Bad e)
+    → option_map (λ t. t.now) (result_ok r) ≡ if_utf8 bytes
+utf8_text Bad (Ok s) bytes (same, utf8) =
+    ap (λ (w : List ℕ). Some w) same
+    ∙ sym (ap (λ b. then_some b bytes) (is_utf8-from_IsUtf8 bytes utf8))
+utf8_text Bad (Err e) bytes (not, bad) = sym (none (is_utf8 bytes) refl)
+  where
+    none : (b : Bool) → is_utf8 bytes ≡ b → then_some b bytes ≡ None
+    none false is = refl
+    none true is = absurd (not (IsUtf8-from_is_utf8 bytes is))

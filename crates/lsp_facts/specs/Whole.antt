@@ -1,16 +1,16 @@
 -- How long a content really is whose header says less: where it breaks off too early, and the bytes
 -- that follow it in its stream are the rest of its JSON text.
-use Rattle.std.specs.Prelude.{ℕ, ◌+◌, ◌-◌, suc, List, [], ◌∷◌, ◌++◌, length, take, nat_lt, ◌==◌}
+use Rattle.std.specs.Prelude.{◌≡◌, ℕ, ◌+◌, ◌-◌, suc, List, [], ◌∷◌, ◌++◌, length, take, nat_lt, ◌==◌}
 use Rattle.std.specs.Prelude.{codes, decimal, if◌then◌else◌, Option, Some, None, option_and_then}
 use Rattle.std.specs.Bool.{then_some}
 use Rattle.std.specs.Str.{chars, is_utf8}
 use Rattle.lsp_text.specs.Places.{units}
 use Rattle.lsp_types.specs.declared.position.Encoding.{Encoding}
-use Rattle.lsp_types.specs.declared.position.Encoding.TheVariants.{Utf8, Utf16, Utf32}
+use Rattle.lsp_types.specs.declared.position.Encoding.TheVariants.{Utf16, Utf32}
 use Rattle.lsp_verdict.specs.Report.{line}
 use Rattle.lsp_facts.specs.DocumentFacts.{encodings_fact}
 use Rattle.lsp_facts.specs.Fact.{Fact}
-use Rattle.lsp_facts.specs.Grammar.{is_whole, left_open, move_in, to}
+use Rattle.lsp_facts.specs.Grammar.{is_whole, json_break, left_open, move_in, to}
 use Rattle.lsp_facts.specs.declared.grammar.Around.{Around}
 use Rattle.lsp_facts.specs.declared.grammar.Gap.TheVariants as gaps
 use Rattle.lsp_facts.specs.declared.grammar.Move.{Move}
@@ -71,10 +71,9 @@ whole_text content behind =
 abbrev pub counted_in : ℕ → List ℕ → Encoding → List Encoding
 counted_in number text enc = if units enc (chars text) == number then enc ∷ [] else []
 
--- in which encodings a text has so many units
+-- in which encodings a text, which has more bytes than this, has so many units
 abbrev pub counting : ℕ → List ℕ → List Encoding
-counting number text =
-    counted_in number text Utf8 ++ counted_in number text Utf16 ++ counted_in number text Utf32
+counting number text = counted_in number text Utf16 ++ counted_in number text Utf32
 
 -- the number of bytes, and in which encodings the header has counted the text
 abbrev pub length_facts : ℕ → Option (List ℕ) → List Fact
@@ -86,3 +85,10 @@ length_facts number (Some text) =
 -- **what is said about a content that is no JSON text, and these bytes behind it**
 abbrev pub whole_facts : List ℕ → List ℕ → List Fact
 whole_facts content behind = length_facts (length content) (whole_text content behind)
+
+-- ---- laws
+
+-- it is a JSON text
+abbrev pub WholeTextsAreJson : Type 0
+WholeTextsAreJson =
+    (content behind text : List ℕ) → whole_text content behind ≡ Some text → json_break text ≡ None

@@ -44,7 +44,9 @@ pub use documents::call_facts;
 pub use earlier::Earlier;
 pub use facts::{Facts, push_facts};
 pub use faults::{flaw_facts, frame_facts};
-pub use laws::{bad_params_have_a_member, bad_result_has_a_member, compared_texts_differ};
+pub use laws::{
+    bad_params_have_a_member, bad_result_has_a_member, compared_texts_differ, whole_texts_are_json,
+};
 pub use lent_text::LentText;
 pub use lines::{
     push_bare_event, push_content_event, push_details, push_end_event, push_message_event,

@@ -52,12 +52,11 @@ fn push_length(facts: &mut Facts, number: usize, text: Option<&str>) -> Result<(
     facts.encodings("counts", names.as_slice())
 }
 
-/// The encodings in which a text has so many units.
+/// The encodings in which a text, which has more bytes than this, has so many units.
 fn counting(alloc: Global, number: usize, text: &str) -> Result<Vec<Encoding>>
     ensures { IfOk result (λ names. names.items ≡ spec.counting number text.now) }
 {
     let mut names = Vec::new(alloc);
-    push_counting(&mut names, number, text, Encoding::Utf8)?;
     push_counting(&mut names, number, text, Encoding::Utf16)?;
     push_counting(&mut names, number, text, Encoding::Utf32)?;
     Ok(names)

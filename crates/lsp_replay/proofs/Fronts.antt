@@ -1,11 +1,11 @@
 -- What is left of a side's bytes after its last whole frame.
 use Rattle.std.specs.Prelude.{if◌then◌else◌, map, filter}
 use Rattle.std.proofs.Common.{◌≡◌, ℕ, Bool, true, false, List, [], ◌∷◌, ◌++◌, Option, Some, None}
-use Rattle.std.proofs.Common.{IsSome, refl, sym, ap, subst, ◌∙◌, append_assoc, ◌+◌, ◌≤◌, append-nil}
+use Rattle.std.proofs.Common.{IsSome, refl, sym, ap, subst, ◌∙◌, append_assoc, ◌+◌, ◌≤◌}
 use Rattle.std.proofs.Common.{arith}
 use Rattle.lsp_frame.specs.Bounds.{Bounds, IsInRange}
 use Rattle.lsp_frame.specs.Decoder as decoder
-use Rattle.lsp_frame.specs.Frame.{IsStream, Frames}
+use Rattle.lsp_frame.specs.Frame.{IsStream}
 use Rattle.lsp_frame.specs.Front.{header_front}
 use Rattle.lsp_log.specs.Log.{Record, chunk, shown}
 use Rattle.lsp_session.specs.Sent.{same_side}
@@ -14,7 +14,7 @@ use Rattle.lsp_verdict.specs.Outcome.{HasRest, is_rest}
 use Rattle.lsp_verdict.specs.Placed.{Raw, joined, content, broken, show, new_fault}
 use Rattle.lsp_verdict.proofs.Below.{faulty_more, one_stream, shown_stays}
 use Rattle.lsp_verdict.proofs.Sessions.Joined.{is_own}
-use Rattle.lsp_replay.specs.Streams.{State, Stands, decoder_of, IsDue, ends_at, ends_inside}
+use Rattle.lsp_replay.specs.Streams.{State, Stands, decoder_of, ends_at, ends_inside}
 use Rattle.lsp_replay.proofs.Owning.{AreBroken, side_broken, given_own}
 use Rattle.lsp_replay.proofs.Giving.{due_rest}
 use Rattle.lsp_replay.proofs.Streaming.{own_due}

@@ -3,7 +3,7 @@
 use Rattle.std.specs.Prelude.{if◌then◌else◌, drop, filter, nat_le, slice_get, suc}
 use Rattle.std.specs.List.{AllZip}
 use Rattle.std.proofs.Common.{◌≡◌, ◌+◌, ◌-◌, ◌<◌, ℕ, Bool, true, false, List, [], ◌∷◌, ◌++◌, Some}
-use Rattle.std.proofs.Common.{Option, refl, sym, ap, subst, ◌∙◌, arith, length, length-append, zero}
+use Rattle.std.proofs.Common.{refl, sym, ap, subst, ◌∙◌, arith, length, length-append, zero}
 use Rattle.std.proofs.Math.Seq.{drop-append_seam}
 use Rattle.std.proofs.lemmas.Bool.Decides.{nat_tests}
 use Rattle.lsp_frame.specs.Bounds.{Bounds}
@@ -14,7 +14,6 @@ use Rattle.lsp_session.proofs.LawLemmas.{same_side-refl}
 use Rattle.lsp_session.specs.Sent.{same_side}
 use Rattle.lsp_types.specs.declared.side.Side.{Side}
 use Rattle.lsp_types.specs.declared.side.Side.TheVariants.{Editor, Server}
-use Rattle.lsp_verdict.specs.Event.{Event}
 use Rattle.lsp_verdict.specs.Heard.{AreBehind, AreRests, HasBehind, Rests, after_byte}
 use Rattle.lsp_verdict.specs.Offences.{IsNoted, Noted, events_of}
 use Rattle.lsp_verdict.specs.Placed.{Raw, joined}
