@@ -101,6 +101,8 @@ const FACTS = {
   breaks: ["JSON until", (it) => [`byte ${it.count} of the content`]],
   before: ["Before it", (it) => [shownText(it.text)]],
   after: ["After it", (it) => [shownText(it.text)]],
+  whole: ["Whole", (it) => [`with the bytes that follow it, the JSON has ${it.count} bytes`]],
+  counts: ["The header", (it) => [`fits that length in ${inUnitsOf(it.names)}`]],
   member: ["Member", (it) => [
     shownText(it.pointer), it.pointer === "" ? " (the params themselves)" : "",
   ]],

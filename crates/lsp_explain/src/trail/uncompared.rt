@@ -67,31 +67,20 @@ impl Uncompared {
             self.old.map.entries self.new.map.entries) }
     {
         match call {
-            Call::Opens { .. } | Call::Changes { .. } => Ok(()),
-            Call::Closes { .. } | Call::Saves { .. } | Call::Shows { .. } => {
-                keep_call(&mut self.map, place, call, took)
+            Call::Opens { .. } | Call::Changes { .. } | Call::Saves { .. } => Ok(()),
+            Call::Closes { uri } => {
+                forget(&mut self.map, uri);
+                Ok(())
+            }
+            Call::Shows { uri, version, text } => {
+                keep_shown(&mut self.map, place, uri, version, text, took)
             }
         }
     }
 }
 
-/// The same of a call that is rare.
-#[inline(never)]
-fn keep_call(map: &mut ShownMap, place: &EventPlace, call: Call<'_>, took: Took) -> Result<()>
-    ensures { OnOk result (LeavesOn (spec.left_by place.now (call_view call.entry) took)
-        map.old.entries map.new.entries) }
-{
-    match call {
-        Call::Closes { uri } => {
-            forget(map, uri);
-            Ok(())
-        }
-        Call::Shows { uri, version, text } => keep_shown(map, place, uri, version, text, took),
-        Call::Opens { .. } | Call::Changes { .. } | Call::Saves { .. } => Ok(()),
-    }
-}
-
 /// Keeps a snapshot, if it is not compared.
+#[inline(always)]
 fn keep_shown(
     map: &mut ShownMap,
     place: &EventPlace,
@@ -111,7 +100,9 @@ fn keep_shown(
     }
 }
 
-/// Keeps a snapshot that is answered so.
+/// Keeps a snapshot that is answered so. There are few of them, and what is inlined for each event
+/// stays short.
+#[inline(never)]
 fn keep_answered(
     map: &mut ShownMap,
     place: &EventPlace,
@@ -153,6 +144,7 @@ fn put(map: &mut ShownMap, place: &EventPlace, uri: &str, version: i32, text: &s
 }
 
 /// Lets go of the snapshot of a document.
+#[inline(never)]
 fn forget(map: &mut ShownMap, uri: &str)
     ensures { LeavesOn (Some (left_of uri.now None)) map.old.entries map.new.entries }
 {

@@ -4,7 +4,7 @@ use Rattle.std.proofs.lemmas.Int.{to_z-of_z}
 use mir.Val.{SFits}
 use Rattle.lsp_docs.specs.Taken.{call_view}
 use Rattle.lsp_explain.specs.Uncompared.{LeavesOn, left_by}
-use Rattle.lsp_explain.proofs.trail.uncompared.keep_call.Goals as goal
+use Rattle.lsp_explain.proofs.trail.uncompared.Uncompared.keep.Goals as goal
 
 pub returns-in-Shows : goal.returns-in-Shows
 returns-in-Shows c =
@@ -13,4 +13,4 @@ returns-in-Shows c =
     let told = simp to_z-of_z at c.keep_shown.ensures in
     subst (λ call. OnOk c.keep_shown.result
     (LeavesOn (left_by c.args.place.now (call_view call) c.args.took)
-    c.args.map.now.entries c.keep_shown.new.map.entries)) (sym c.in-Shows.is) told
+    c.args.self.now.map.entries c.keep_shown.new.map.entries)) (sym c.in-Shows.is) told
