@@ -171,7 +171,7 @@ pub silent : (event : Event) → ((sent : Sent) → event ≡ message sent → �
     → None ≡ diagnosed_at event
 silent (message m) not = absurd (not m refl)
 silent (fault side rule) not = refl
-silent (snapshot uri number text) not = refl
+silent (snapshot uri version text) not = refl
 
 pub silent_raw : (raw : code_raw.Raw) (event : Event)
     → ((side : Side) (bytes behind : Bor (List ℕ)) → raw ≡ raws.Content side bytes behind → ⊥)
@@ -179,17 +179,17 @@ pub silent_raw : (raw : code_raw.Raw) (event : Event)
 silent_raw (raws.Content side bytes behind) event not reads = absurd (not side bytes behind refl)
 silent_raw (raws.Broken side rule rest) (message m) not reads = absurd (cc reads)
 silent_raw (raws.Broken side rule rest) (fault own by) not reads = refl
-silent_raw (raws.Broken side rule rest) (snapshot uri number text) not reads = refl
+silent_raw (raws.Broken side rule rest) (snapshot uri version text) not reads = refl
 silent_raw (raws.Snapshot version uri text) (message m) not reads = absurd (cc reads)
 silent_raw (raws.Snapshot version uri text) (fault own by) not reads = refl
-silent_raw (raws.Snapshot version uri text) (snapshot own number t) not reads = refl
+silent_raw (raws.Snapshot version uri text) (snapshot own v t) not reads = refl
 
 -- ---- the document that they name
 
-uri_back : (number : Option ℤ) (o : Option Text)
-    → option_map (λ (v : Versioned). v.uri) (option_map (versioned number) o) ≡ o
-uri_back number None = refl
-uri_back number (Some uri) = refl
+uri_back : (version : Option ℤ) (o : Option Text)
+    → option_map (λ (v : Versioned). v.uri) (option_map (versioned version) o) ≡ o
+uri_back version None = refl
+uri_back version (Some uri) = refl
 
 pub named_diagnosed : (m : Message)
     → option_map (λ (v : Versioned). v.uri) (diagnosed_in Server m) ≡ named_by Server m

@@ -172,16 +172,20 @@ sound-push : (terms : Terms) (done before : List Heard) (h : Heard)
     || is_some (rule_of terms (done ++ before) h)) h
 sound-push terms done [] h =
     ap (λ (l : List Heard). next_of (is_some (rule_of terms l h)) h) (sym (append-nil done))
-sound-push terms done (x ∷ after) h = by_rule (rule_of terms done x) refl
+sound-push terms done (x ∷ after) h =
+    by_rule (sound-push terms (done ++ x ∷ []) after h) (rule_of terms done x)
   where
-    by_rule : (o : Option ℕ) → rule_of terms done x ≡ o
+    by_rule : sound_from terms (done ++ x ∷ []) (after ++ h ∷ [])
+        ≡ sound_from terms (done ++ x ∷ []) after
+        ++ next_of (is_some (first_from (rule_of terms) (done ++ x ∷ []) after)
+        || is_some (rule_of terms ((done ++ x ∷ []) ++ after) h)) h → (o : Option ℕ)
         → (if is_some o then [] else x ∷ sound_from terms (done ++ x ∷ []) (after ++ h ∷ []))
         ≡ (if is_some o then [] else x ∷ sound_from terms (done ++ x ∷ []) after)
         ++ next_of (is_some (option_or o (first_from (rule_of terms) (done ++ x ∷ []) after))
         || is_some (rule_of terms (done ++ x ∷ after) h)) h
-    by_rule (Some rule) is = refl
-    by_rule None is =
-        ap (λ l. x ∷ l) (sound-push terms (done ++ x ∷ []) after h
+    by_rule others (Some rule) = refl
+    by_rule others None =
+        ap (λ l. x ∷ l) (others
         ∙ ap (λ (l : List Heard). sound_from terms (done ++ x ∷ []) after
         ++ next_of (is_some (first_from (rule_of terms) (done ++ x ∷ []) after)
         || is_some (rule_of terms l h)) h) (append_assoc done (x ∷ []) after))
@@ -191,16 +195,19 @@ sound_all : (terms : Terms) (done heard : List Heard)
     → is_some (first_from (rule_of terms) done heard) ≡ false
     → sound_from terms done heard ≡ heard
 sound_all terms done [] none = refl
-sound_all terms done (x ∷ after) none = by_rule (rule_of terms done x) refl
+sound_all terms done (x ∷ after) none =
+    by_rule (sound_all terms (done ++ x ∷ []) after) (rule_of terms done x) refl
   where
-    by_rule : (o : Option ℕ) → rule_of terms done x ≡ o
+    by_rule : (is_some (first_from (rule_of terms) (done ++ x ∷ []) after) ≡ false
+        → sound_from terms (done ++ x ∷ []) after ≡ after) → (o : Option ℕ)
+        → rule_of terms done x ≡ o
         → (if is_some o then [] else x ∷ sound_from terms (done ++ x ∷ []) after) ≡ x ∷ after
-    by_rule (Some rule) is =
+    by_rule others (Some rule) is =
         let broken : true ≡ false =
         sym (ap (λ (o : Option ℕ). is_some (option_or o
         (first_from (rule_of terms) (done ++ x ∷ []) after))) is) ∙ none in absurd (cc broken)
-    by_rule None is =
-        ap (λ l. x ∷ l) (sound_all terms (done ++ x ∷ []) after
+    by_rule others None is =
+        ap (λ l. x ∷ l) (others
         (sym (ap (λ (o : Option ℕ). is_some (option_or o
         (first_from (rule_of terms) (done ++ x ∷ []) after))) is) ∙ none))
 

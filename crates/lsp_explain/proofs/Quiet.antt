@@ -215,6 +215,7 @@ call_taken terms old r events (message m) (content side bytes) p call are kept r
       is = ap without_params heard.is;
       standard = heard.standard;
       no_files = heard.no_files;
+      no_diagnostics = heard.no_diagnostics;
     } in
     message_taken terms old (record old { renames = r }) events m bytes bare p are kept at
     reads.reads (ap outline heard.is ∙ sym (ap outline own.is)) (inr refl)

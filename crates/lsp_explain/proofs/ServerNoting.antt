@@ -706,11 +706,11 @@ module _ (p : EventPlace) (method : List ℕ) (named : Option (List ℕ)) where
 
   pub asks_other : is_rename method ≡ false → is_formatting method ≡ false
       → request_named p method named ≡ None
-  asks_other no also = λ i. asked_by (no i) (also i)
+  asks_other none also = λ i. asked_by (none i) (also i)
 
   pub asks_format : is_rename method ≡ false → is_formatting method ≡ true
       → request_named p method named ≡ option_map (λ uri. edit_request p (Some uri)) named
-  asks_format no is = λ i. asked_by (no i) (is i)
+  asks_format none is = λ i. asked_by (none i) (is i)
 
 -- one that is no request
 pub asks_nothing : (p : EventPlace) (m : Message) (said : lent.Message)

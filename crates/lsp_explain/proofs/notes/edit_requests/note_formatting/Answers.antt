@@ -11,11 +11,11 @@ pub returns-in_default : goal.returns-in_default
 returns-in_default c =
     none_asked _ c.args.asked.now.items
     (ap (option_map (λ uri. edit_request c.args.place (Some uri)))
-    (sym c.document_of.ensures ∙ ap (option_map string_bytes) c.in_default.is))
+    (sym c.in_ok-uri.ensures ∙ ap (option_map string_bytes) c.in_default.is))
 
 pub returns : goal.returns
 returns c = on_ok_weaker c.push.result (λ held.
     subst (λ o. Holds (cons_option (option_map (λ uri. edit_request c.args.place (Some uri)) o) [])
     c.args.asked.now.items c.push.new.asked.items)
-    (sym (ap (option_map string_bytes) c.in-Some.is) ∙ c.document_of.ensures) held)
+    (sym (ap (option_map string_bytes) c.in-Some.is) ∙ c.in_ok-uri.ensures) held)
     c.push.ensures

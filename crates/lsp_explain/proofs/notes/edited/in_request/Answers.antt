@@ -5,7 +5,7 @@ use Rattle.lsp_rpc.specs.Reading.{BreaksRule, IsRefusal}
 use Rattle.lsp_rpc.specs.View.{message_view}
 use Rattle.lsp_verdict.proofs.Below.{not_both, one_message}
 use Rattle.lsp_explain.specs.Naming.{params_of}
-use Rattle.lsp_explain.specs.ServerEdits.{edit_in, in_edit, uris_with}
+use Rattle.lsp_explain.specs.ServerEdits.{edit_in, edited_view, in_edit, uris_with}
 use Rattle.lsp_explain.proofs.EditedMessages.{edits_asked_for, no_edits_asked}
 use Rattle.lsp_explain.proofs.ServerNoting.{edit_of_request}
 use Rattle.lsp_explain.proofs.notes.edited.in_request.Goals as goal
@@ -13,7 +13,8 @@ use Rattle.lsp_explain.proofs.notes.edited.in_request.Goals as goal
 -- it has no edits made
 pub returns-then-not-is_apply_edit : goal.returns-then-not-is_apply_edit
 returns-then-not-is_apply_edit c = λ terms before event m now reads is.
-    no_edits_asked (uris_with terms before event) c.args.now.place c.args.method.now (params_of m)
+    ap (map edited_view) c.new.ensures.items
+    ∙ no_edits_asked (uris_with terms before event) c.args.now.place c.args.method.now (params_of m)
     (sym c.is_apply_edit.ensures ∙ c.if-not-is_apply_edit.true)
 
 pub returns-in-Ok : goal.returns-in-Ok

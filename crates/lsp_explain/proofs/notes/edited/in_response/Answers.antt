@@ -1,8 +1,8 @@
-use Rattle.std.specs.Prelude.{option_and_then, option_map}
+use Rattle.std.specs.Prelude.{map, option_and_then, option_map}
 use Rattle.std.proofs.Common.{◌∙◌, ap, sym}
 use Rattle.std.proofs.lemmas.Result.{IfOk-weaker}
 use Rattle.lsp_rpc.specs.Ident.{id_view}
-use Rattle.lsp_explain.specs.ServerEdits.{answered, in_whole, uris_with}
+use Rattle.lsp_explain.specs.ServerEdits.{answered, edited_view, in_whole, uris_with}
 use Rattle.lsp_explain.proofs.ServerNoting.{none_answered}
 use Rattle.lsp_explain.proofs.notes.edited.in_response.Goals as goal
 
@@ -16,5 +16,6 @@ returns-in-Some c = IfOk-weaker c.in_answer.result _ _
 pub returns-in-None : goal.returns-in-None
 returns-in-None c = λ terms before event m now are reads.
     let uris = uris_with terms before event in
-    sym (none_answered uris m)
+    ap (map edited_view) c.new.ensures.items
+    ∙ sym (none_answered uris m)
     ∙ ap (λ o. in_whole uris (answered terms before (option_map id_view o)) m) (sym c.in-None.is)

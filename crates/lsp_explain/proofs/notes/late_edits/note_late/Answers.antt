@@ -28,5 +28,5 @@ returns c = on_ok_weaker c.push_within.result (λ pushed.
     (is_late c.args.uri.now c.args.asked c.args.answered (contents c.args.texts.now)
     (edits_of c.args.edits.now) (sym c.has_changed.ensures ∙ c.if-not-has_changed.false)
     (sym c.are_held.ensures ∙ c.if-not-are_held.false)
-    ∙ (λ i. Some (late_answer (sym c.in_ok-uri.ensures i) c.args.asked c.args.answered
+    ∙ (λ i. Some (late_answer (sym c.in_ok-uri.ensures.ok i) c.args.asked c.args.answered
     (sym c.in_ok-edits.ensures i)))) pushed) c.push_within.ensures

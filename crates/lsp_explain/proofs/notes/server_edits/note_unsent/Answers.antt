@@ -20,8 +20,8 @@ returns c = on_ok_weaker c.push_if.result (λ noted terms before event now.
     let old = notes_view c.args.notes.now.items in
     noted
     ∙ ap (λ u. with_note old (option_map (document_note (on_document u place))
-    (option_map string_bytes c.in_ok-words.words))) c.as_str.ensures.value
+    (option_map string_bytes c.in_ok-words.words))) c.as_str-uri.ensures.value
     ∙ ap (λ o. with_note old (option_map (note_on e place) o))
     (c.in_ok-words.ensures terms before now.trail
-    ∙ ap (λ u. if_unsent terms before u c.in-Some.version) c.as_str.ensures.value
+    ∙ ap (λ u. if_unsent terms before u c.in-Some.version) c.as_str-uri.ensures.value
     ∙ ap (option_and_then (if_unsent terms before e.uri)) (sym c.in-Some.is))) c.push_if.ensures

@@ -11,7 +11,7 @@ returns c = IfOk-weaker c.texts_since.result _ _
     let made = calls_with terms before event in
     let setters = c.as_slice.ensures.value
     ∙ c.in_ok-setters.ensures terms before now.trail.marked
-    ∙ ap (λ u. recent (steps terms u before)) c.as_str.ensures.value in
+    ∙ ap (λ u. recent (steps terms u before)) c.as_str-uri.ensures.value in
     is made now.stands
-    ∙ (λ i. texts_since (now.by i) (c.as_str.ensures.value i) made (setters i)
+    ∙ (λ i. texts_since (now.by i) (c.as_str-uri.ensures.value i) made (setters i)
     c.args.edited.now.since)) c.texts_since.ensures

@@ -28,7 +28,8 @@ pub returns : goal.returns
 returns c = λ terms before trail.
     let fits : SFits w32 c.args.version = search rules in
     let unset = simp to_z-of_z at c.is_unset.ensures in
-    ap Some c.in_ok-words.ensures
+    let words = simp to_z-of_z at c.in_ok-words.ensures.ok in
+    ap Some words
     ∙ unsent_so terms before c.args.uri.now c.args.version c.as_slice.result.now c.closing.result
     c.is_unset.result c.is_never.result
     (c.as_slice.ensures.value ∙ c.in_ok-setters.ensures terms before trail.marked)

@@ -58,5 +58,5 @@ returns c = on_ok_weaker c.note_change.result (λ noted terms before h own trail
     seen.stood.by (noted events made
     (subst (λ es. Stands c.args.held.now.docs (calls (kept_of terms es))) (events-push before h)
     seen.stood.holds.called)) trail are.late_are)
-    c.note_change.ensures.others.0 c.note_change.ensures.others.1 c.note_change.ensures.others.2)
+    c.note_change.ensures.others.0 c.note_change.ensures.others.1.0 c.note_change.ensures.others.1.1)
     c.note_change.ensures.late_edits

@@ -12,7 +12,7 @@ pub returns-in_default : goal.returns-in_default
 returns-in_default c = record {
   asked = refl;
   late = refl;
-  others = (refl, refl, refl);
+  others = (refl, (refl, refl));
   late_edits = λ before made stands trail are.
       ap (with_note (notes_view c.args.self.now.late_edits.items))
       (sym (late_unchanged c.args.docs.now.terms before made c.args.place c.args.call
@@ -23,7 +23,7 @@ pub returns : goal.returns
 returns c = rw c.in-Changes.is (record {
   asked = refl;
   late = refl;
-  others = (refl, refl, refl);
+  others = (refl, (refl, refl));
   late_edits = on_ok_weaker c.push_if.result (λ noted before made stands trail are.
       let terms = c.args.docs.now.terms in
       let uri = c.in-Changes.uri.now in

@@ -42,7 +42,7 @@ returns c = λ terms before event now.
     let new = c.note_sight.new.self in
     let there = place_of before event in
     let texts = contents c.in-Some-2.texts.items in
-    let edits = edits_of c.in-Some.edits.now.items in
+    let edits = edits_of c.in-Some.edits.items in
     let seen = c.in_ok-note_sight.ensures in
     let here = (λ i. sight (contents (c.as_slice.ensures.value i))
     (edits_of (c.as_slice-2.ensures.value i))) in

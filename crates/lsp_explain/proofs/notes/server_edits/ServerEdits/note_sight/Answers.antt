@@ -19,14 +19,14 @@ returns c =
       unsent = refl;
       outside = on_ok_weaker c.note_late.result (λ held. c.in_ok-push_if.ensures
           ∙ (λ i. with_note (notes_view old.outside.items) (option_map
-          (document_note (on_document (c.as_str.ensures.value i) place))
+          (document_note (on_document (c.as_str-uri.ensures.value i) place))
           (c.in_ok-outside.ensures i)))) c.note_late.ensures;
       overlaps = on_ok_weaker c.note_late.result (λ held. c.in_ok-push_if-2.ensures
           ∙ (λ i. with_note (notes_view old.overlaps.items) (option_map
-          (document_note (on_document (c.as_str.ensures.value i) place))
+          (document_note (on_document (c.as_str-uri.ensures.value i) place))
           (c.in_ok-overlap.ensures i)))) c.note_late.ensures;
       late = on_ok_weaker c.note_late.result (λ held. subst (λ u. HoldsLate (cons_option
           (if_late u c.args.edited.now.since place (contents c.args.texts.now)
           (edits_of c.args.edits.now)) []) old.late.items c.note_late.new.late.items)
-          c.as_str.ensures.value held) c.note_late.ensures;
+          c.as_str-uri.ensures.value held) c.note_late.ensures;
     }

@@ -1,7 +1,9 @@
 use Rattle.std.specs.Prelude.{map}
-use Rattle.std.proofs.Common.{◌++◌, ◌∙◌, ap}
+use Rattle.std.proofs.Common.{List, ◌++◌, ◌∙◌, ap}
 use Rattle.std.proofs.lemmas.Result.{on_ok_weaker}
+use Rattle.lsp_facts.specs.Fact.{Fact}
 use Rattle.lsp_explain.specs.DocumentNotes.{document_line, notes_view}
+use Rattle.lsp_explain.specs.declared.notes.document_notes.DocumentNote as code
 use Rattle.lsp_explain.proofs.ServerNoting.{four_parts}
 use Rattle.lsp_explain.proofs.notes.server_edits.ServerEdits.push.Goals as goal
 
@@ -9,7 +11,8 @@ pub returns : goal.returns
 returns c = on_ok_weaker c.push_lines-4.result
     (λ pushed.
     let old = c.args.notes.now in
-    let lines = λ notes. map document_line (notes_view notes) in
+    let lines : List code.DocumentNote → List Fact =
+    λ notes. map document_line (notes_view notes) in
     let s = c.args.self.now in
     pushed
     ∙ ap (λ l. l ++ lines c.as_slice-4.result.now) (c.in_ok-push_lines-3.ensures
