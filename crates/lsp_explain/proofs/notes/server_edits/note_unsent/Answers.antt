@@ -1,6 +1,8 @@
 use Rattle.std.specs.Prelude.{option_and_then, option_map, string_bytes}
-use Rattle.std.proofs.Common.{◌∙◌, ap, sym}
+use Rattle.std.proofs.Common.{◌∙◌, ap, rules, sym, w32}
+use Rattle.std.proofs.lemmas.Int.{to_z-of_z}
 use Rattle.std.proofs.lemmas.Result.{on_ok_weaker}
+use mir.Val.{SFits}
 use Rattle.lsp_explain.specs.DocumentNotes.{document_note, notes_view, with_note}
 use Rattle.lsp_explain.specs.History.{on_document}
 use Rattle.lsp_explain.specs.ServerEdits.{edited_view, if_unsent, note_on}
@@ -14,14 +16,17 @@ returns-in_default c = λ terms before event now.
     (option_and_then (if_unsent terms before e.uri) o))) (sym c.in_default.is)
 
 pub returns : goal.returns
-returns c = on_ok_weaker c.push_if.result (λ noted terms before event now.
+returns c =
+    let fits : SFits w32 c.in-Some.version = search rules in
+    on_ok_weaker c.push_if.result (λ noted terms before event now.
     let e = edited_view c.args.edited.now in
     let place = c.args.now.place in
     let old = notes_view c.args.notes.now.items in
+    let unsent = simp to_z-of_z at (c.in_ok-words.ensures terms before now.trail) in
     noted
     ∙ ap (λ u. with_note old (option_map (document_note (on_document u place))
     (option_map string_bytes c.in_ok-words.words))) c.as_str-uri.ensures.value
     ∙ ap (λ o. with_note old (option_map (note_on e place) o))
-    (c.in_ok-words.ensures terms before now.trail
+    (unsent
     ∙ ap (λ u. if_unsent terms before u c.in-Some.version) c.as_str-uri.ensures.value
     ∙ ap (option_and_then (if_unsent terms before e.uri)) (sym c.in-Some.is))) c.push_if.ensures

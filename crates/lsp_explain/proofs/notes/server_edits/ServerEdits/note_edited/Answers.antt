@@ -1,6 +1,6 @@
 use Rattle.std.specs.Prelude.{option_map}
 use Rattle.std.specs.List.{cons_option}
-use Rattle.std.proofs.Common.{◌∙◌, [], ap, refl, subst, sym}
+use Rattle.std.proofs.Common.{◌≡◌, ◌∙◌, [], ap, refl, subst, sym}
 use Rattle.lsp_replay.specs.Lines.{place_of}
 use Rattle.lsp_text.specs.Changes.{edits_of}
 use Rattle.lsp_explain.specs.DocumentNotes.{notes_view, with_note}
@@ -44,8 +44,9 @@ returns c = λ terms before event now.
     let texts = contents c.in-Some-2.texts.items in
     let edits = edits_of c.in-Some.edits.items in
     let seen = c.in_ok-note_sight.ensures in
-    let here = (λ i. sight (contents (c.as_slice.ensures.value i))
-    (edits_of (c.as_slice-2.ensures.value i))) in
+    let here : sight (contents c.as_slice.result.now) (edits_of c.as_slice-2.result.now)
+    ≡ sight texts edits =
+    λ i. sight (contents (c.as_slice.ensures.value i)) (edits_of (c.as_slice-2.ensures.value i)) in
     notes_seen terms before event e old new seen.asked seen.late_edits
     (ap (λ v. notes_view v.items) seen.unsent
     ∙ c.in_ok-note_unsent.ensures terms before event now
