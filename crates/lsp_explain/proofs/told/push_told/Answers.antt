@@ -1,7 +1,9 @@
 use Rattle.std.specs.Prelude.{option_map, unwrap_or}
 use Rattle.std.specs.Str.{chars}
-use Rattle.std.proofs.Common.{◌++◌, ◌∙◌, Some, ap, subst, sym}
+use Rattle.std.proofs.Common.{◌++◌, ◌∙◌, Some, ap, rules, subst, sym, w32}
+use Rattle.std.proofs.lemmas.Int.{to_z-of_z}
 use Rattle.std.proofs.lemmas.Result.{on_ok_weaker}
+use mir.Val.{SFits}
 use Rattle.lsp_types.specs.declared.position.Encoding.TheVariants.{Utf16}
 use Rattle.lsp_docs.specs.Calls.{uri_of}
 use Rattle.lsp_docs.specs.Documents.{held}
@@ -105,7 +107,11 @@ returns-in_default-texts_of c = λ before stands breaks tried.
     ∙ none_differ terms enc c.args.until setters shown sent call base)
 
 pub returns : goal.returns
-returns c = on_ok_weaker c.push_tried.result (λ said before stands breaks tried.
+returns c =
+    let since = c.in-Some.base.now.since in
+    let fits : SFits w32 since = search rules in
+    let shown_in = uncompared_in c.args.past.trail.now.uncompared.map.entries in
+    on_ok_weaker c.push_tried.result (λ said before stands breaks tried.
     let old = c.args.facts.now in
     let terms = terms_in c.args.past in
     let call = call_view c.args.call in
@@ -138,8 +144,8 @@ returns c = on_ok_weaker c.push_tried.result (λ said before stands breaks tried
     ∙ ap (λ u. setters_until limit (recent (steps terms u before))) c.uri-2.ensures in
     let later = if_later k.base.number shown in
     let same_shown = c.later-shown.ensures
-    ∙ (λ i. if_later (k.since i) (uncompared_in c.args.past.trail.now.uncompared.map.entries
-    (c.uri-3.ensures i)))
+    ∙ ap (λ n. if_later n (shown_in c.uri-3.result.now)) (to_z-of_z w32 since fits)
+    ∙ (λ i. if_later (k.since i) (shown_in (c.uri-3.ensures i)))
     ∙ ap (if_later k.base.number) (stands.trail.shown uri) in
     said
     ∙ (λ i. old ++ told terms (same_enc i) (k.text i) (same_setters i) (same_shown i) (same_edits i)
