@@ -108,8 +108,9 @@ returns-in_default-texts_of c = λ before stands breaks tried.
 
 pub returns : goal.returns
 returns c =
-    let fits : SFits w32 c.in-Some.base.now.since = search rules in
-    let shown_later = simp to_z-of_z at c.later-shown.ensures in
+    let since = c.in-Some.base.now.since in
+    let fits : SFits w32 since = search rules in
+    let shown_in = uncompared_in c.args.past.trail.now.uncompared.map.entries in
     on_ok_weaker c.push_tried.result (λ said before stands breaks tried.
     let old = c.args.facts.now in
     let terms = terms_in c.args.past in
@@ -142,9 +143,9 @@ returns c =
     ∙ c.in_ok-setters.ensures terms before stands.trail.marked
     ∙ ap (λ u. setters_until limit (recent (steps terms u before))) c.uri-2.ensures in
     let later = if_later k.base.number shown in
-    let same_shown = shown_later
-    ∙ (λ i. if_later (k.since i) (uncompared_in c.args.past.trail.now.uncompared.map.entries
-    (c.uri-3.ensures i)))
+    let same_shown = c.later-shown.ensures
+    ∙ ap (λ n. if_later n (shown_in c.uri-3.result.now)) (to_z-of_z w32 since fits)
+    ∙ (λ i. if_later (k.since i) (shown_in (c.uri-3.ensures i)))
     ∙ ap (if_later k.base.number) (stands.trail.shown uri) in
     said
     ∙ (λ i. old ++ told terms (same_enc i) (k.text i) (same_setters i) (same_shown i) (same_edits i)
