@@ -202,6 +202,8 @@ MESSAGES = [
     b'{"jsonrpc":"2.0","id":1,"result":null}',
     b'{"jsonrpc":"2.0","method":"initialize","params":{"capabilities":{}}}',
     b'{"jsonrpc":"2.0","method":"exit","extra":[1],"params":null}',
+    b'{"jsonrpc":"2.0","method":"textDocument/publishDiagnostics","params":{"uri":"file:///a","version":1}}',
+    b'{"jsonrpc":"2.0","method":"textDocument/publishDiagnostics","params":{"uri":"a","version":1e0,"uri":"b"}}',
 ]
 
 
