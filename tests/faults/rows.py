@@ -140,6 +140,14 @@ IN_BYTES = {
     "a session in records of one byte in format 2": HEAD_TWO + sessions.in_bytes(sessions.WHOLE)[len(HEAD):],
 }
 
+# A content that is cut off, since its length counts characters, and the rest of it.
+NOTE = '{"jsonrpc":"2.0","method":"window/logMessage","params":{"type":3,"message":"é"}}'
+SHORT = b"Content-Length: %d\r\n\r\n%s" % (len(NOTE), NOTE.encode())
+CUT_OFF = {
+    "a content that is cut off" + words: head + START[len(HEAD):] + b"S %d\n%s\n" % (len(SHORT), SHORT)
+    for words, head in [("", HEAD), (" in format 2", HEAD_TWO)]
+}
+
 EXIT = frame('{"jsonrpc":"2.0","method":"exit"}')
 
 
