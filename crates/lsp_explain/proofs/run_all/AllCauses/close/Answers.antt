@@ -4,6 +4,7 @@ use Rattle.lsp_survey.proofs.SurveySteps.{clean_by}
 use Rattle.lsp_verdict.specs.Given.{offence_view, verdict_view}
 use Rattle.lsp_verdict.specs.Heard.{heard_events, notes_of}
 use Rattle.lsp_verdict.specs.Offences.{offences}
+use Rattle.lsp_explain.specs.ExplainRuns.{rests_held}
 use Rattle.lsp_explain.proofs.Ending.{all_closes, few_found, nos_listed}
 use Rattle.lsp_explain.proofs.Telling.{stands_at}
 use Rattle.lsp_explain.proofs.run_all.AllCauses.close.Goals as goal
@@ -25,7 +26,7 @@ returns c = record {
       all_closes completeness terms heard log end c.in_ok-verdict.verdict found
       (option_map verdict_view c.in_ok-listed.field-0.bad) _ _ _ _ _ (ap (λ os. events ++ os) are)
       c.in_ok-listed.ensures.bad
-      (nos_listed _ terms heard _ listed _ _ _ stood.by are
+      (nos_listed _ terms heard (rests_held log) listed _ _ _ stood.by are
       (c.in_ok-explain_ends.ensures.said (heard_events heard) (stands_at _ terms heard stands.trail stood)))
       (c.in_ok-verdict.ensures terms heard found stood few tally (clean_by terms heard ends))
       c.in_ok-push_flaw.ensures
