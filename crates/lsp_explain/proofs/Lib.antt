@@ -15,6 +15,7 @@ pub mod Misfitting
 pub mod NamedDocuments
 pub mod Refusing
 pub mod OtherSpellings
+pub mod EditsByKind
 pub mod ServerNoting
 pub mod EditedTexts
 pub mod LateSteps

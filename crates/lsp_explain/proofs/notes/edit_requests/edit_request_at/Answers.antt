@@ -2,7 +2,7 @@ use Rattle.std.specs.Prelude.{option_map}
 use Rattle.std.proofs.Common.{◌∙◌, ap}
 use Rattle.lsp_explain.specs.EditRequests.{is_by, request_view}
 use Rattle.lsp_explain.proofs.History.{last_held}
-use Rattle.lsp_explain.proofs.ServerNoting.{asked_on}
+use Rattle.lsp_explain.proofs.EditsByKind.{asked_on}
 use Rattle.lsp_explain.proofs.notes.edit_requests.edit_request_at.Goals as goal
 
 pub returns : goal.returns

@@ -8,8 +8,8 @@ use Rattle.lsp_rpc.specs.Outline.{outline}
 use Rattle.lsp_rpc.specs.View.{message_view}
 use Rattle.lsp_types.specs.declared.side.Side.TheVariants.{Editor}
 use Rattle.lsp_explain.specs.EditRequests.{Holds, is_formatting, is_rename}
-use Rattle.lsp_explain.proofs.ServerNoting.{asks_edits, asks_nothing, asks_other, asks_rename}
-use Rattle.lsp_explain.proofs.ServerNoting.{asks_format, none_asked}
+use Rattle.lsp_explain.proofs.EditsByKind.{asks_edits, asks_nothing, asks_other, asks_rename}
+use Rattle.lsp_explain.proofs.EditsByKind.{asks_format, none_asked}
 use Rattle.lsp_explain.proofs.notes.edit_requests.note_edit_request.Goals as goal
 
 -- it is no request

@@ -3,7 +3,7 @@ use Rattle.std.specs.Prelude.{option_map, string_bytes}
 use Rattle.std.proofs.Common.{◌∙◌, Some, [], ap, subst, sym}
 use Rattle.std.proofs.lemmas.Result.{on_ok_weaker}
 use Rattle.lsp_explain.specs.EditRequests.{Holds, edit_request}
-use Rattle.lsp_explain.proofs.ServerNoting.{none_asked}
+use Rattle.lsp_explain.proofs.EditsByKind.{none_asked}
 use Rattle.lsp_explain.proofs.notes.edit_requests.note_formatting.Goals as goal
 
 -- it names none

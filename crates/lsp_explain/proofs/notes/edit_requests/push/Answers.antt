@@ -1,5 +1,5 @@
 use Rattle.std.proofs.lemmas.Result.{on_ok_weaker}
-use Rattle.lsp_explain.proofs.ServerNoting.{one_asked}
+use Rattle.lsp_explain.proofs.EditsByKind.{one_asked}
 use Rattle.lsp_explain.proofs.notes.edit_requests.push.Goals as goal
 
 pub returns : goal.returns

@@ -7,7 +7,7 @@ use Rattle.lsp_rpc.specs.View.{message_view}
 use Rattle.lsp_explain.specs.Naming.{params_of}
 use Rattle.lsp_explain.specs.ServerEdits.{in_diagnostics, in_request, uris_with}
 use Rattle.lsp_explain.proofs.EditedMessages.{responds}
-use Rattle.lsp_explain.proofs.ServerNoting.{has_answer, has_notification, has_request, is_request_so}
+use Rattle.lsp_explain.proofs.EditsByKind.{has_answer, has_notification, has_request, is_request_so}
 use Rattle.lsp_explain.proofs.notes.edited.edited_by.Goals as goal
 
 pub returns-in-Request : goal.returns-in-Request

@@ -7,7 +7,7 @@ use Rattle.lsp_verdict.proofs.Below.{not_both, one_message}
 use Rattle.lsp_explain.specs.Naming.{params_of}
 use Rattle.lsp_explain.specs.ServerEdits.{edit_in, edited_view, in_edit, uris_with}
 use Rattle.lsp_explain.proofs.EditedMessages.{edits_asked_for, no_edits_asked}
-use Rattle.lsp_explain.proofs.ServerNoting.{edit_of_request}
+use Rattle.lsp_explain.proofs.EditsByKind.{edit_of_request}
 use Rattle.lsp_explain.proofs.notes.edited.in_request.Goals as goal
 
 -- it has no edits made

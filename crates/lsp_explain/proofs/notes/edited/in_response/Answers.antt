@@ -3,7 +3,7 @@ use Rattle.std.proofs.Common.{◌∙◌, ap, sym}
 use Rattle.std.proofs.lemmas.Result.{IfOk-weaker}
 use Rattle.lsp_rpc.specs.Ident.{id_view}
 use Rattle.lsp_explain.specs.ServerEdits.{answered, edited_view, in_whole, uris_with}
-use Rattle.lsp_explain.proofs.ServerNoting.{none_answered}
+use Rattle.lsp_explain.proofs.EditsByKind.{none_answered}
 use Rattle.lsp_explain.proofs.notes.edited.in_response.Goals as goal
 
 pub returns-in-Some : goal.returns-in-Some

@@ -2,7 +2,7 @@ use Rattle.std.specs.Prelude.{option_map}
 use Rattle.std.proofs.Common.{◌∙◌, ap}
 use Rattle.lsp_explain.specs.LateEdits.{is_since, late_view}
 use Rattle.lsp_explain.proofs.History.{last_held}
-use Rattle.lsp_explain.proofs.ServerNoting.{late_on}
+use Rattle.lsp_explain.proofs.EditsByKind.{late_on}
 use Rattle.lsp_explain.proofs.notes.late_edits.late_since.Goals as goal
 
 pub returns : goal.returns

@@ -5,7 +5,7 @@ use Rattle.lsp_text.specs.Changes.{edits_of}
 use Rattle.lsp_explain.specs.LateEdits.{late_answer}
 use Rattle.lsp_explain.specs.TextsSince.{contents}
 use Rattle.lsp_explain.proofs.LateSteps.{is_late, not_changed, not_held}
-use Rattle.lsp_explain.proofs.ServerNoting.{none_late, one_late}
+use Rattle.lsp_explain.proofs.EditsByKind.{none_late, one_late}
 use Rattle.lsp_explain.proofs.notes.late_edits.note_late.Goals as goal
 
 -- the text did not change
