@@ -61,7 +61,7 @@ def read_section(section, rules):
         for number in numbers_of(row[0]):
             rule = rules.setdefault(number, {})
             if len(row) == 2:
-                rule["look"] = row[1]
+                rule["look"] = f"{rule.get('look', '')} {row[1]}".lstrip()
                 continue
             rule.update(zip(("text", "when", "causes", "fault"), row[1:]))
             rule["more"] = [it for it in paragraphs if re.search(rf"\b{number}\b", it)]

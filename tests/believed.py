@@ -1,13 +1,14 @@
 #!/usr/bin/env python3
-"""Lists the definitions that the contract of `run_check` rests on: what one must read to know what is
-proved about a verdict.
+"""Lists the definitions that the contract of a run rests on: what one must read to know what is
+proved about it.
 
-usage: tests/believed.py [--names]       with --names, each definition, too
+usage: tests/believed.py [--names] [RUN]       with --names, each definition, too
 
-It follows the names in crates/*/specs from `Checked` on, and prints for each file how many
+RUN is a public function, by default `run_check`; of others, `run_explain` and `run_redact`. From the
+names in its `ensures`, this follows the names in crates/*/specs, and prints for each file how many
 definitions are reached and how many lines they have, without imports, comments and empty lines. Last
-comes the sum. What the kit defines (lists, numbers, characters, JSON), and the types of the code that
-definitions use, are not counted.
+comes the sum. What the kit defines (lists, numbers, characters, JSON), and the types, traits and
+constants of the code that definitions use, are not counted.
 """
 
 import re
@@ -20,9 +21,8 @@ sys.path.append(str(TOP / "recorders"))
 
 import outputs  # noqa: E402
 
-FIRST = ("Rattle.lsp_judge.specs.Checked", "Checked")
-
 USE = re.compile(r"use ([\w.]+?)(?:\.\{(.*)\}| as (\w+))?$")
+GHOST_USE = re.compile(r"^ghost use ([\w.]+)\.\{(.*)\};$", re.M)
 HEAD = re.compile(r"(?:abbrev |record |data |pub )*([^\s:({]+)")
 PART = re.compile(r"\s+(?:pub )?([\w-]+) :")
 WORD = re.compile(r"[^\s(){}.,;]+")
@@ -73,9 +73,22 @@ def modules():
     return found
 
 
-def reached():
-    """The names of the definitions that are reached, by file."""
-    known, found, waiting = modules(), {}, [FIRST]
+def cited(run, known):
+    """The definitions that the contract of a public function names, each with its module."""
+    for path in sorted(TOP.glob("crates/*/src/**/*.rt")):
+        text = path.read_text()
+        head = re.search(rf"^pub fn {run}\b.*?^(?=\{{)", text, re.S | re.M)
+        if head and "ensures" in head[0]:
+            words = set(WORD.findall(head[0].partition("ensures")[2]))
+            names = ((place, it) for place, imported in GHOST_USE.findall(text) for it in imported.split(", "))
+            return [(place, it) for place, it in names if it in words and place in known]
+    sys.exit(f"tests/believed.py: no public function {run} with a contract")
+
+
+def reached(run="run_check"):
+    """The names of the definitions that are reached from the contract of a run, by file."""
+    known, found = modules(), {}
+    waiting = cited(run, known)
     while waiting:
         place, word = waiting.pop()
         module = known[place]
@@ -98,14 +111,15 @@ def lines_of(item):
 
 
 def main(words):
-    if words not in ([], ["--names"]):
+    runs = [it for it in words if it != "--names"]
+    if len(runs) > 1 or any(it.startswith("-") for it in runs):
         sys.exit(__doc__)
-    found, total = reached(), 0
+    found, total = reached(*runs), 0
     for module, names in sorted(found.items(), key=lambda it: it[0].path):
         lines = lines_of((module, names))
         total += lines
         print(f"{module.path.relative_to(TOP)}: {len(names)} definitions, {lines} lines")
-        if words:
+        if "--names" in words:
             print("".join(f"  {name}\n" for name in module.lines if name in names), end="")
     print(f"{len(found)} files, {sum(map(len, found.values()))} definitions, {total} lines")
     return 0

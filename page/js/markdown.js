@@ -40,7 +40,8 @@ function shortDifference() {
 function smallestSession() {
   const lines = smallestLines();
   return lines.length === 0 ? [] : ["",
-    "The editor's messages of the smallest session that shows this, for `clangd -lit-test`:", "",
+    `The editor's messages of the smallest session that shows this${smallestLack()}, ` +
+      "for `clangd -lit-test`:", "",
     ...markdownBlock("", lines)];
 }
 

@@ -14,11 +14,17 @@ function smallestLines() {
   return lines.map((it) => (it.startsWith("#") ? namedText(it) : escapedJson(it)));
 }
 
+// What they lack of the session that shows the violation.
+function smallestLack() {
+  return verdict.rule === 702 ? ", without its snapshot" : "";
+}
+
 function smallestPart() {
   const lines = smallestLines();
   return lines.length === 0 ? null : element("section", "card smallest",
     element("h2", "", "The smallest session that shows this"),
-    element("p", "", "The editor's messages, as ", element("code", "", "clangd -lit-test"),
+    element("p", "", `The editor's messages${smallestLack()}, as `,
+      element("code", "", "clangd -lit-test"),
       " reads them. They are in what is copied as Markdown, too."),
     session.name === null ? null : element("p", "", "A page without the words of the sources: ",
       shownCommand(`${lspcheckCommand("redact")} | lspcheck-page --small -`)),

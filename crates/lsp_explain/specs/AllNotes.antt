@@ -183,12 +183,28 @@ noted_run completeness = record {
 
 -- ---- laws
 
--- **Without its notes, it is what `explain --all` writes of the log**, which ends so too.
+-- lines that are no notes, and the notes behind them
+abbrev pub Passage : Type 0
+Passage = List ℕ × List Fact
+
+-- passages without their notes, and with them
+abbrev pub plain_of : List Passage → List ℕ
+plain_of [] = []
+plain_of (p ∷ ps) = p.0 ++ plain_of ps
+
+abbrev pub noted_of : List Passage → List ℕ
+noted_of [] = []
+noted_of (p ∷ ps) = (p.0 ++ fact_lines p.1) ++ noted_of ps
+
+-- **Without its notes and their number, it is what `explain --all` writes of the log**, which ends
+-- so too.
 abbrev pub NotesAreBeside : Type 0
 NotesAreBeside =
     (completeness : Completeness) (limits : Bounds) (log out : List ℕ) (outcome : Outcome)
     → IsPassed (noted_run completeness) limits log out outcome
-    → (plain : List ℕ) × IsPassed (all_run completeness) limits log plain outcome
+    → (passages : List Passage) × (n : ℕ)
+    × IsPassed (all_run completeness) limits log (plain_of passages) outcome
+    × (out ≡ noted_of passages ++ count_line n)
 
 -- ---- as they are held
 

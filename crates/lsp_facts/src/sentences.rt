@@ -82,6 +82,11 @@ pub(crate) const ROWS: [Row; 28] = [
         "The last messages seem right; an earlier one is wrong, or a change was never sent.",
     ),
     (
+        "suspects 1\n",
+        "equal ",
+        "Either one message is wrong, or one change was never sent.",
+    ),
+    (
         "ends converted ",
         "",
         "Only line ends differ: each is written in another way.",
@@ -92,11 +97,6 @@ pub(crate) const ROWS: [Row; 28] = [
         "Only the line end at the very end differs.",
     ),
     ("ends mixed\n", "", "Only line ends differ."),
-    (
-        "suspects 1\n",
-        "equal ",
-        "Either one message is wrong, or one change was never sent.",
-    ),
     (
         "counts ",
         "",
