@@ -49,6 +49,11 @@ class Contents:
         event.version, event.uri = record.version, record.uri.decode()
         return record.data
 
+    def rest(self, side):
+        """The bytes that follow the last content of a side in the record in which that ends."""
+        stream = self.streams[side]
+        return bytes(stream.held[stream.start :])
+
     def of(self, event):
         """The content of the next event, which must be the one after that of the last call."""
         try:

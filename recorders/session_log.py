@@ -28,9 +28,10 @@ class Damaged(ValueError):
     """Bytes that are not a log, or not a frame."""
 
 
-def framed(content):
-    """A message as a frame."""
-    return b"Content-Length: %d\r\n\r\n%s" % (len(content), content)
+def framed(content, length=None):
+    """A message as a frame, whose header says another length if one is given."""
+    length = len(content) if length is None else length
+    return b"Content-Length: %d\r\n\r\n%s" % (length, content)
 
 
 class Frames:

@@ -28,6 +28,10 @@ class Item:
     value: object = None
     # The document of a snapshot or of a message about a text.
     uri: str = None
+    # If its header says fewer bytes than the content has: in which units it counts, or how many are
+    # missing.
+    counts: str = None
+    missing: int = 0
 
     @property
     def is_snapshot(self):
@@ -50,12 +54,30 @@ class Item:
         """The same event with another content."""
         return replace(self, content=encoded(value), value=value)
 
+    @property
+    def length(self):
+        """What the header of a message says."""
+        if self.counts is None:
+            return len(self.content) - self.missing
+        text = self.content.decode("utf-8", "replace")
+        return len(text) if self.counts == "utf-32" else len(text.encode("utf-16-le")) // 2
+
     @cached_property
     def records(self):
         """The bytes of the event in a log."""
         if self.is_snapshot:
             return Record(TEXT, self.content, self.version, self.uri.encode()).encoded()
-        return b"".join(as_records(KINDS[self.event.side], framed(self.content)))
+        return b"".join(as_records(KINDS[self.event.side], framed(self.content, self.length)))
+
+    def completed(self, rest, lines):
+        """The same event with the bytes of its stream that follow its content, up to the end that
+        `whole` tells in an explanation."""
+        said = dict(it.split(" ")[:2] for it in lines if it.startswith(("whole ", "counts ")))
+        if "whole" not in said:
+            return self
+        whole = (self.content + rest)[: int(said["whole"])]
+        missing = len(whole) - len(self.content)
+        return replace(self, content=whole, counts=said.get("counts"), missing=missing)
 
 
 @dataclass(frozen=True)
@@ -98,7 +120,7 @@ def item_of(event, content):
     return Item(event, content, message if is_object else None, uri)
 
 
-def read_case(program):
+def read_case(program, explanation):
     """The events of a log up to the first that breaks a rule, or all of them."""
     items = []
     lines = program.output("show", "--long", "--json").splitlines()
@@ -107,6 +129,9 @@ def read_case(program):
             contents = Contents(file)
             for event in Listing(objects_in(lines, "show")):
                 items.append(item_of(event, contents.of(event)))
+            if items and items[-1].event.rule == 201:
+                rest = contents.rest(items[-1].event.side)
+                items[-1] = items[-1].completed(rest, explanation)
     except OSError as error:
         raise Failed(f"{program.log}: {error.strerror}", 3) from error
     return Case(contents.format, tuple(items))

@@ -16,7 +16,7 @@ TEXTS = ("after", "before", "by-messages", "in-editor", "inside", "saved")
 # What stays of lines whose numbers depend on what else is in the log.
 CHANGED = [
     (re.compile(r"no (\d+) (\w+) \d+ event \d+"), r"no \1 \2"),
-    (re.compile(r"(begins|breaks|bytes|kept) .*"), r"\1"),
+    (re.compile(r"(begins|breaks|bytes|kept|whole) .*"), r"\1"),
     (re.compile(r"at \d+ (\d+)"), r"at \1"),
     (re.compile(r"change \d+ (?:\d+ (\d+) \d+ (\d+)|whole)"), r"change \1 \2"),
     (re.compile(r"changes [1-9]\d*"), "changes"),

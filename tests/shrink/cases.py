@@ -5,7 +5,7 @@ from io import BytesIO
 
 import session_log
 from logs import changed, edit, frame, notification, opened, request, result, saved, snapshot
-from scripts import small_of
+from scripts import explained, put, small_of
 
 URI = "file:///home/someone/secret%20project/main.c"
 OTHER = "file:///home/someone/other.c"
@@ -370,6 +370,23 @@ def shortens_contents(program, place):
     assert found[4].endswith(wanted[3][-32:]) and found[4].startswith("E {"), found
 
 
+def completes_contents(program, place):
+    """201: a content that is longer than its header says stays with the bytes that complete it."""
+    for text, missing, counts in (("é" * 3, 3, "counts utf-16 utf-32"), ("😀", 3, "counts utf-32"), ("", 1, None)):
+        message = changed(URI, 2, {"text": text + "x" * 5000})
+        content = json.dumps(message, ensure_ascii=False).encode()
+        cut = session_log.framed(content, len(content) - missing)
+        log = head() + chatter(40) + session_log.Record(b"E", cut).encoded() + chatter(80)
+        small = small_of(program, place, log)
+        assert len(small) < 1000 and small.count(b"\r\n\r\n") == 4, small
+        length, _, left = small.rpartition(b"Content-Length: ")[2].partition(b"\r\n\r\n")
+        left = left.removesuffix(b"\n")
+        assert json.loads(left) and left.endswith(content[-32:]), small
+        assert int(length) == (len(left.decode()) if counts else len(left) - missing) < len(left), small
+        said = explained(program, put(place, small, "small.log"))
+        assert f"whole {len(left)}" in said and (counts in said if counts else "counts" not in " ".join(said)), said
+
+
 def keeps_a_note(program, place):
     """--note, on logs whose verdict is yes."""
     answer = {"capabilities": {"textDocumentSync": 2}, "offsetEncoding": "utf-8", "more": [1, 2]}
@@ -437,6 +454,7 @@ TESTS = [
     keeps_how_names_are_spelled,
     shortens_what_breaks_rules_of_requests,
     shortens_contents,
+    completes_contents,
     keeps_a_note,
     writes_the_messages_for_clangd,
 ]

@@ -33,3 +33,9 @@ def small_of(program, place, log, *options):
     status, small, said = run(program, *options, put(place, log))
     assert (status, said) == (0, b""), (status, said)
     return small
+
+
+def explained(program, log):
+    """The lines of its explanation."""
+    done = subprocess.run([program, "explain", log], timeout=SECONDS, stdout=subprocess.PIPE)
+    return done.stdout.decode().splitlines()
