@@ -48,7 +48,7 @@ class Setting:
         return {it.method: it.content for it in found}
 
     def no_answer(self):
-        return f"gave no answer in {self.wait:g} seconds to"
+        return f"gave no answer in {self.wait:g} seconds (see --wait) to"
 
     def text(self, number, uri):
         """The text that the server should hold after a message, or None if there is none."""

@@ -42,12 +42,12 @@ def waits_no_longer_than_it_says(program, place):
     for fault in ("silent=1", "deaf"):
         begun = time.monotonic()
         done = run(program, log, fault, options=["--wait", 1.5])
-        refuses_first(done, 'python\\S* gave no answer in 1.5 seconds to editor 1 event 1 request 1 "initialize"')
+        refuses_first(done, 'python\\S* gave no answer in 1.5 seconds \\(see --wait\\) to editor 1 event 1 request 1 "initialize"')
         # Ten times its patience at the end of a server, and what a busy machine needs.
         assert time.monotonic() - begun < 100, fault
     question = 'to the question "textDocument/formatting"'
     done, seconds = run_waiting(program, log, "silent=4", is_wanted=lambda done, _: question in done.stderr)
-    refuses_first(done, f'python\\S* gave no answer in {seconds} seconds to the question "textDocument/formatting"')
+    refuses_first(done, f'python\\S* gave no answer in {seconds} seconds \\(see --wait\\) to the question "textDocument/formatting"')
 
 
 def is_not_held_up(program, place):

@@ -231,7 +231,7 @@ def lists_what_is_not_answered(program, place):
     where = f"editor 10 event {session.numbers[10]} request 5"
     log = put(place, session.end())
     done, seconds = run_waiting(program, log, "mute=textDocument/hover", is_wanted=lambda done, _: where in done.stderr)
-    refuses(done, 2, f'gave no answer in {seconds} seconds to {where} "textDocument/hover"')
+    refuses(done, 2, f'gave no answer in {seconds} seconds (see --wait) to {where} "textDocument/hover"')
 
 
 def replays_as_far_as_it_goes(program, place):
