@@ -2,6 +2,7 @@
 use Rattle.std.proofs.Common.{◌≡◌, ◌⊎◌, ℕ, List, [], ◌∷◌, ◌++◌, length, inl, inr}
 use Rattle.std.proofs.Common.{refl, sym, ap, ◌∙◌, append-nil, append_assoc}
 use Rattle.lsp_docs.specs.Documents.{Terms}
+use Rattle.lsp_facts.specs.Fact.{fact_lines}
 use Rattle.lsp_replay.specs.Run.{EndsAfter, IsPassed, SaysAll, StopsIn}
 use Rattle.lsp_verdict.specs.Heard.{Heard, Rests}
 use Rattle.lsp_verdict.specs.Outcome.{log_terms}
@@ -9,6 +10,7 @@ use Rattle.lsp_verdict.specs.declared.completeness.Completeness.{Completeness}
 use Rattle.lsp_explain.specs.AllNotes.{NotesAreBeside, Passage, noted_of, noted_run, noted_verdict}
 use Rattle.lsp_explain.specs.AllNotes.{noticed_along, notes_at, plain_of}
 use Rattle.lsp_explain.specs.ExplainRuns.{all_run}
+use Rattle.lsp_explain.specs.Notes.{count_line, notes_by, uncompared}
 
 -- ---- one passage more
 
