@@ -63,7 +63,7 @@ notes_beside completeness limits log out outcome p = by_end p.is
         let terms = log_terms limits p.format in
         let verdict = noted_verdict completeness terms p.heard p.tail in
         let noticed = noticed_along terms p.heard in
-        let last = (x.closes.0.0, uncompared verdict noticed.unshown) in
+        let last : Passage = (x.closes.0.0, uncompared verdict noticed.unshown) in
         let number = length (notes_by verdict noticed) in
         let said = plain_events completeness terms p.tail.rests [] p.heard x.front x.said in (
           said.0 ++ last ∷ [],
