@@ -255,13 +255,14 @@ def pieces(source):
                 yield head, data
 
 
-def record(source, options):
-    """Records until the proxy ends, and then ends this process."""
+def record(source, options, earlier):
+    """Records until the proxy ends, and then ends this process. When the proxy started, the
+    plug-in's file had `earlier` bytes."""
     try:
         leave_session()
         log = Log(options)
         log.start()
-        saves, plugin = proxy_snapshots.start(log.put, not options.no_snapshots)
+        saves, plugin = proxy_snapshots.start(log.put, not options.no_snapshots, earlier)
         for head, data in pieces(source):
             kind, number, *when = head.split()
             log.put(b"%s %s\n%s" % (kind, number, data))

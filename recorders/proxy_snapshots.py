@@ -209,25 +209,26 @@ class Saves(threading.Thread):
 
 
 class Plugin(threading.Thread):
-    """Takes the snapshots that a plug-in writes to a file or a named pipe, from now on."""
+    """Takes the snapshots that a plug-in writes to a file or a named pipe. The bytes that a file
+    had when the proxy started are of an earlier session."""
 
     PAUSE = 0.05
 
-    def __init__(self, path, add):
+    def __init__(self, path, earlier, add):
         super().__init__(daemon=True)
-        self.path, self.add, self.held = path, add, bytearray()
-        self.file, self.has_ended = None, threading.Event()
-        # What is in a file from an earlier session is not of this one.
-        self.open(os.SEEK_END)
+        self.path, self.earlier, self.add, self.held = path, earlier, add, bytearray()
+        self.file, self.is_pipe, self.has_ended = None, False, threading.Event()
+        self.open()
 
-    def open(self, whence):
-        """Opens the file, if it is there by now."""
+    def open(self):
+        """Opens the file, if it is there by now, and skips the bytes of an earlier session."""
         try:
             self.file = os.open(self.path, os.O_RDONLY | os.O_NONBLOCK)
         except FileNotFoundError:
             return
-        if not stat.S_ISFIFO(os.fstat(self.file).st_mode):
-            os.lseek(self.file, 0, whence)
+        self.is_pipe = stat.S_ISFIFO(os.fstat(self.file).st_mode)
+        if not self.is_pipe:
+            os.lseek(self.file, self.earlier, os.SEEK_SET)
 
     def run(self):
         try:
@@ -240,15 +241,25 @@ class Plugin(threading.Thread):
     def take_all(self):
         """Takes what was written until now."""
         if self.file is None:
-            self.open(os.SEEK_SET)
+            self.open()
+        if self.file is None:
+            return
+        if not self.is_pipe:
+            self.follow()
         while data := self.read():
             self.held += data
             while record := self.next():
                 self.add(record)
 
+    def follow(self):
+        """Goes back to the start of a file that the plug-in has emptied."""
+        if os.fstat(self.file).st_size < os.lseek(self.file, 0, os.SEEK_CUR):
+            os.lseek(self.file, 0, os.SEEK_SET)
+            self.held.clear()
+
     def read(self):
         try:
-            return os.read(self.file, 65536) if self.file is not None else b""
+            return os.read(self.file, 65536)
         except BlockingIOError:
             return b""
 
@@ -279,15 +290,24 @@ class Plugin(threading.Thread):
         self.join(PATIENCE)
 
 
-def start(add, takes_saves):
-    """Starts what takes snapshots; None for what the user doesn't want."""
+def size_now():
+    """How many bytes the file of the plug-in has: none, if it is not there."""
+    try:
+        return os.stat(os.environ.get("LSPCHECK_SNAPSHOTS", "")).st_size
+    except OSError:
+        return 0
+
+
+def start(add, takes_saves, earlier):
+    """Starts what takes snapshots; None for what the user doesn't want. When the proxy started, the
+    plug-in's file had `earlier` bytes."""
     saves = plugin = None
     if takes_saves:
         saves = Saves(add)
         saves.start()
     if path := os.environ.get("LSPCHECK_SNAPSHOTS"):
         try:
-            plugin = Plugin(path, add)
+            plugin = Plugin(path, earlier, add)
             plugin.start()
         except OSError as error:
             proxy_log.say(f"{path}: no snapshots from a plug-in: {error.strerror}")

@@ -30,9 +30,7 @@ def checked(place, program, *options, **how):
     search = f"{folder}:{os.environ['PATH']}"
     (place / "snapshots").write_bytes(b"")
     setting = {"PATH": search, "LSPCHECK_SNAPSHOTS": str(place / "snapshots")}
-    editor = Editor(place, *options, setting=setting, **how).start()
-    editor.has_opened()
-    return editor
+    return Editor(place, *options, setting=setting, **how).start()
 
 
 def say_text(editor, version, text):

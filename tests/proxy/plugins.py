@@ -11,15 +11,14 @@ sys.path.insert(0, str(PROXY.parent))
 import proxy_snapshots  # noqa: E402
 
 
-def by_plugin(make, write):
-    """A test of snapshots that a plug-in writes."""
+def by_plugin(make, write, late=0):
+    """A test of snapshots that a plug-in writes. The recorder begins some seconds late."""
 
     def trial(place):
         path = place / "snapshots"
         make(path)
-        editor = Editor(place, setting={"LSPCHECK_SNAPSHOTS": str(path)}).start()
-        if path.exists():
-            editor.has_opened()
+        setting = {"LSPCHECK_SNAPSHOTS": str(path), "RECORDER_IS_LATE": str(late)}
+        editor = Editor(place, setting=setting).start()
         uri = b"file:///a"
         editor.open(uri.decode(), "one\n")
         given = [(1, uri, b"one\n"), (-7, uri, b""), (2, uri, "ä\n".encode() * 50_000)]
@@ -51,6 +50,10 @@ def put(path, parts):
                 part = part[file.write(part) :]
 
 
+def write_nothing(path):
+    pass
+
+
 def write_old(path):
     path.write_bytes(snapshot(b"file:///a", 1, b"of an earlier session"))
 
@@ -73,7 +76,6 @@ def bad_plugin(name):
         path = place / "snapshots"
         path.write_bytes(b"")
         editor = Editor(place, setting={"LSPCHECK_SNAPSHOTS": str(path)}).start()
-        editor.has_opened()
         first, last = snapshot(b"file:///a", 1, b"one"), snapshot(b"file:///a", 2, b"two")
         append(path, [first + BAD_SNAPSHOTS[name], last])
         yield "the session continues", editor.quit() == 0, editor.words()
@@ -89,13 +91,27 @@ def written_last(place):
     """What was written since the file was last looked at is taken at the end."""
     path, taken = place / "snapshots", []
     path.write_bytes(b"")
-    plugin = proxy_snapshots.Plugin(path, taken.append)
+    plugin = proxy_snapshots.Plugin(path, 0, taken.append)
     plugin.PAUSE = SECONDS
     plugin.start()
     append(path, [snapshot(b"file:///a", 1, b"last")])
     plugin.finish()
     plugin.join(SECONDS)
     yield "is taken", taken == [snapshot(b"file:///a", 1, b"last")], taken
+
+
+def emptied(place):
+    """Some plug-ins empty the file of an earlier session."""
+    path, taken = place / "snapshots", []
+    first, second = snapshot(b"file:///a", 1, b"first"), snapshot(b"file:///a", 2, b"second")
+    path.write_bytes(first + second)
+    plugin = proxy_snapshots.Plugin(path, path.stat().st_size, taken.append)
+    for records in ([first], [first, second[:5]], [second]):
+        path.write_bytes(b"".join(records))
+        plugin.take_all()
+        path.write_bytes(b"")
+        plugin.take_all()
+    yield "is taken from its start", taken == [first, first, second], taken
 
 
 def no_plugin(place):
@@ -109,9 +125,12 @@ def no_plugin(place):
 
 TESTS = {
     "plug-in: a file": by_plugin(write_old, append),
-    "plug-in: a file that comes later": by_plugin(lambda path: None, append),
+    "plug-in: a file that comes later": by_plugin(write_nothing, append),
+    "plug-in: a file, with a late recorder": by_plugin(write_old, append, 0.5),
+    "plug-in: a file that comes before the recorder": by_plugin(write_nothing, append, 0.5),
     "plug-in: a named pipe": by_plugin(os.mkfifo, put),
     **{f"plug-in: {name}": bad_plugin(name) for name in BAD_SNAPSHOTS},
     "plug-in: written last": written_last,
+    "plug-in: a file that was emptied": emptied,
     "plug-in: not there": no_plugin,
 }

@@ -173,10 +173,6 @@ class Editor:
         until(lambda: self.traced(["recorder"]))
         return self.traced(["recorder"])[0][0]
 
-    def has_opened(self):
-        """Waits until the recorder has opened the file or named pipe of the plug-in."""
-        return until(lambda: self.traced(["opened"]))
-
     def notes(self, path, count):
         """Waits until the recorder has noted that a file was written this many times."""
         return until(lambda: [it for it, _ in self.traced(["noted"])].count(str(path)) >= count)

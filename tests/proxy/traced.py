@@ -1,15 +1,15 @@
 #!/usr/bin/env python3
-"""Runs the proxy for its tests. It is the proxy itself, with three changes: it writes to a file
+"""Runs the proxy for its tests. It is the proxy itself, with four changes: it writes to a file
 what it has done by now, so that a test waits for that instead of for a time; at the end it waits as
 long as it is told; and whatever it waits for in a session can take a number of times as long, for
-a machine that is too slow otherwise.
+a machine that is too slow otherwise. With RECORDER_IS_LATE, its recorder begins that many seconds
+late, as it may on a busy machine.
 
 usage: traced.py TRACE PATIENCE TIMES [ARGUMENT OF THE PROXY ..]
 
 Each line of TRACE is a list in JSON, whose first word says what was done:
 
     recorder NUMBER                  the number of the process that records
-    opened                           the file or named pipe of the plug-in is open
     heard METHOD URI BEGUN NOW DUE   a message of the editor: when that began, the time of its bytes
                                      in nanoseconds, and how many documents wait for a snapshot
     read URI DUE                     a saved file was read, and its snapshot recorded or dropped
@@ -47,9 +47,9 @@ def trace_all(tell):
     """Tells what each part of the recorder does, after it has done it."""
     record, hear = proxy_log.record, proxy_snapshots.Saves.hear
     read_next, add = proxy_snapshots.Saves.read_next, proxy_files.Written.add
-    run = proxy_snapshots.Plugin.run
 
     def traced_record(*given):
+        time.sleep(float(os.environ.get("RECORDER_IS_LATE", 0)))
         tell("recorder", os.getpid())
         record(*given)
 
@@ -71,14 +71,9 @@ def trace_all(tell):
         add(written, text)
         tell("noted", os.fsdecode(written.path), text)
 
-    def traced_run(plugin):
-        if plugin.file is not None:
-            tell("opened")
-        run(plugin)
-
     proxy_log.record = traced_record
     proxy_snapshots.Saves.hear, proxy_snapshots.Saves.read_next = traced_hear, traced_read_next
-    proxy_files.Written.add, proxy_snapshots.Plugin.run = traced_add, traced_run
+    proxy_files.Written.add = traced_add
 
 
 def main(trace, patience, times, *words):

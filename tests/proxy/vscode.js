@@ -3,8 +3,7 @@
 //
 // usage: node vscode.js EXTENSION URI TRACE COMMAND ..
 //
-// It begins when TRACE says that the proxy has opened the file for snapshots. With LOSE=N, the client
-// loses its N-th change.
+// It begins when TRACE says that the proxy records. With LOSE=N, the client loses its N-th change.
 
 "use strict";
 
@@ -63,7 +62,7 @@ function change(count) {
 }
 
 function begin() {
-  if (!fs.existsSync(trace) || !fs.readFileSync(trace, "utf8").includes('["opened"]\n')) {
+  if (!fs.existsSync(trace) || !fs.readFileSync(trace, "utf8").includes('["recorder"')) {
     setTimeout(begin, 20);
     return;
   }
