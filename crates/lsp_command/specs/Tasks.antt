@@ -11,7 +11,6 @@ use Rattle.lsp_judge.specs.JudgingRun.{check_run, show_run}
 use Rattle.lsp_judge.specs.Objects.{CheckedObject}
 use Rattle.lsp_judge.specs.ShownLog.{Showed, UpgradesLog}
 use Rattle.lsp_extract.specs.Stream.{RunsFrames}
-use Rattle.lsp_verdict.specs.declared.lines.Lines.{Lines}
 use Rattle.lsp_verdict.specs.declared.outcome.Outcome.{Outcome}
 use Rattle.lsp_verdict.specs.declared.outcome.RunFault.{RunFault}
 use Rattle.lsp_verdict.specs.Runs.{Ports, failures_read as source_failures}

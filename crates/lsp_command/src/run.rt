@@ -5,7 +5,8 @@ ghost use Rattle.lsp_judge.specs.ShownLog.{Showed};
 ghost use Rattle.lsp_verdict.specs.Runs.{ports};
 ghost use Rattle.lsp_verdict.specs.declared.outcome.RunFault.TheVariants as faults;
 ghost use Rattle.lsp_command.specs.Ports.{input_error, late_error, output_error, unwritten};
-ghost use Rattle.lsp_command.specs.Tasks.{RanTask, RanThrough, handed_on};
+ghost use Rattle.lsp_command.specs.Tasks.{RanTask, RanThrough, handed_on, of_run};
+ghost use Rattle.lsp_command.specs.declared.command_line.task.Task.TheVariants as tasks;
 
 use crate::command_line::{Explanation, Extent, Report, Rewrite, Task};
 use crate::input::BufferedInput;
@@ -24,6 +25,7 @@ use lsp_redact::run_redact;
 use lsp_survey::{run_show_all, run_survey, run_text_all};
 use std::alloc::Global;
 use std::io::{Read, Write};
+use std::num::NonZeroU64;
 
 /// Does the task over a source and a sink.
 pub fn run_task<R: Source, W: Sink>(
@@ -38,65 +40,58 @@ pub fn run_task<R: Source, W: Sink>(
         result }
 {
     match task {
-        Task::Check(completeness, Report::Verdict, Form::Lines) => {
-            of_run(check(alloc, source, sink, limits, completeness))
+        Task::Check(completeness, report, form) => {
+            of_run(check(alloc, source, sink, limits, completeness, report, form))
         }
-        Task::Check(completeness, Report::Verdict, Form::Json) => {
-            of_run(run_check_json(alloc, source, sink, limits, completeness))
-        }
-        Task::Check(completeness, Report::Line(name), Form::Lines) => {
-            let ended = run_check_line(alloc, source, sink, limits, completeness, name);
-            of_run(ended)
-        }
-        Task::Check(completeness, Report::Line(file), Form::Json) => {
-            let ended = run_check_object(alloc, source, sink, limits, completeness, file);
-            of_run(ended)
-        }
-        Task::Check(completeness, Report::Offences(listing), form) => {
-            let ended = run_survey(alloc, source, sink, limits, completeness, listing, form);
-            of_run(ended)
-        }
-        Task::Explain(completeness, Explanation::Verdict, form) => {
-            of_run(run_explain(alloc, source, sink, limits, completeness, form))
-        }
-        Task::Explain(completeness, Explanation::All, form) => {
-            let ended = run_explain_all(alloc, source, sink, limits, completeness, form);
-            of_run(ended)
-        }
-        Task::Explain(completeness, Explanation::AllWithNotes, form) => {
-            let ended = run_explain_noted(alloc, source, sink, limits, completeness, form);
-            of_run(ended)
+        Task::Explain(completeness, explanation, form) => {
+            of_run(explain(alloc, source, sink, limits, completeness, explanation, form))
         }
         Task::Compared(which) => of_run(run_compared(alloc, source, sink, limits, which)),
-        Task::Show(lines, Extent::First, Form::Lines) => {
-            of_run(show(alloc, source, sink, limits, lines))
-        }
-        Task::Show(lines, Extent::First, Form::Json) => {
-            of_run(run_show_json(alloc, source, sink, limits, lines))
-        }
-        Task::Show(lines, Extent::All, form) => {
-            of_run(run_show_all(alloc, source, sink, limits, lines, form))
+        Task::Show(lines, extent, form) => {
+            of_run(show(alloc, source, sink, limits, lines, extent, form))
         }
         Task::Text {
             number,
             uri,
-            extent: Extent::First,
-        } => of_run(run_text(alloc, source, sink, limits, number.get(), uri)),
-        Task::Text {
-            number,
-            uri,
-            extent: Extent::All,
-        } => of_run(run_text_all(alloc, source, sink, limits, number.get(), uri)),
+            extent,
+        } => of_run(text(alloc, source, sink, limits, number, uri, extent)),
         Task::Event { number } => of_event(run_event(alloc, source, sink, limits, number.get())),
-        Task::Rewrite(Rewrite::Normal) => of_run(run_normal(alloc, source, sink, limits)),
-        Task::Rewrite(Rewrite::Upgrade) => of_run(run_upgrade(alloc, source, sink, limits)),
-        Task::Rewrite(Rewrite::Redact) => of_run(run_redact(alloc, source, sink, limits)),
+        Task::Rewrite(how) => of_run(rewrite(alloc, source, sink, limits, how)),
         Task::Frames(mode) => of_run(run_frames(alloc, source, sink, limits, mode)),
     }
 }
 
-/// Judges a session, which must be complete or not.
+/// Judges a session, which must be complete or not, and writes this report of it.
 fn check<R: Source, W: Sink>(
+    alloc: Global,
+    source: &mut R,
+    sink: &mut W,
+    limits: Limits,
+    completeness: Completeness,
+    report: Report<'_>,
+    form: Form,
+) -> Result<Outcome, RunFault>
+    ensures ran { RanTask limits (tasks.Check completeness report.entry form)
+        (ports (R.told source.old) (R.told source.new) (W.told sink.old) (W.told sink.new))
+        (of_run result) }
+{
+    match (report, form) {
+        (Report::Verdict, Form::Lines) => judge(alloc, source, sink, limits, completeness),
+        (Report::Verdict, Form::Json) => run_check_json(alloc, source, sink, limits, completeness),
+        (Report::Line(name), Form::Lines) => {
+            run_check_line(alloc, source, sink, limits, completeness, name)
+        }
+        (Report::Line(file), Form::Json) => {
+            run_check_object(alloc, source, sink, limits, completeness, file)
+        }
+        (Report::Offences(listing), form) => {
+            run_survey(alloc, source, sink, limits, completeness, listing, form)
+        }
+    }
+}
+
+/// Judges a session, which must be complete or not, and writes its verdict.
+fn judge<R: Source, W: Sink>(
     alloc: Global,
     source: &mut R,
     sink: &mut W,
@@ -113,8 +108,52 @@ fn check<R: Source, W: Sink>(
     }
 }
 
-/// Lists the events of a session up to its verdict, by short or long lines.
+/// Explains what is wrong with a session, which must be complete or not.
+fn explain<R: Source, W: Sink>(
+    alloc: Global,
+    source: &mut R,
+    sink: &mut W,
+    limits: Limits,
+    completeness: Completeness,
+    explanation: Explanation,
+    form: Form,
+) -> Result<Outcome, RunFault>
+    ensures ran { RanTask limits (tasks.Explain completeness explanation form)
+        (ports (R.told source.old) (R.told source.new) (W.told sink.old) (W.told sink.new))
+        (of_run result) }
+{
+    match explanation {
+        Explanation::Verdict => run_explain(alloc, source, sink, limits, completeness, form),
+        Explanation::All => run_explain_all(alloc, source, sink, limits, completeness, form),
+        Explanation::AllWithNotes => {
+            run_explain_noted(alloc, source, sink, limits, completeness, form)
+        }
+    }
+}
+
+/// Lists the events of a session, followed this far, by short or long lines.
 fn show<R: Source, W: Sink>(
+    alloc: Global,
+    source: &mut R,
+    sink: &mut W,
+    limits: Limits,
+    lines: Lines,
+    extent: Extent,
+    form: Form,
+) -> Result<Outcome, RunFault>
+    ensures ran { RanTask limits (tasks.Show lines extent form)
+        (ports (R.told source.old) (R.told source.new) (W.told sink.old) (W.told sink.new))
+        (of_run result) }
+{
+    match (extent, form) {
+        (Extent::First, Form::Lines) => list(alloc, source, sink, limits, lines),
+        (Extent::First, Form::Json) => run_show_json(alloc, source, sink, limits, lines),
+        (Extent::All, form) => run_show_all(alloc, source, sink, limits, lines, form),
+    }
+}
+
+/// Lists the events of a session up to its verdict, by short or long lines.
+fn list<R: Source, W: Sink>(
     alloc: Global,
     source: &mut R,
     sink: &mut W,
@@ -128,6 +167,46 @@ fn show<R: Source, W: Sink>(
     match lines {
         Lines::Short => run_show(alloc, source, sink, limits),
         Lines::Long => run_show_long(alloc, source, sink, limits),
+    }
+}
+
+/// Writes the text of a document after the editor's message of this number, in a session that is
+/// followed this far.
+fn text<R: Source, W: Sink>(
+    alloc: Global,
+    source: &mut R,
+    sink: &mut W,
+    limits: Limits,
+    number: NonZeroU64,
+    uri: &str,
+    extent: Extent,
+) -> Result<Outcome, RunFault>
+    ensures ran { RanTask limits (tasks.Text number uri.entry extent)
+        (ports (R.told source.old) (R.told source.new) (W.told sink.old) (W.told sink.new))
+        (of_run result) }
+{
+    match extent {
+        Extent::First => run_text(alloc, source, sink, limits, number.get(), uri),
+        Extent::All => run_text_all(alloc, source, sink, limits, number.get(), uri),
+    }
+}
+
+/// Writes a log again.
+fn rewrite<R: Source, W: Sink>(
+    alloc: Global,
+    source: &mut R,
+    sink: &mut W,
+    limits: Limits,
+    how: Rewrite,
+) -> Result<Outcome, RunFault>
+    ensures ran { RanTask limits (tasks.Rewrite how)
+        (ports (R.told source.old) (R.told source.new) (W.told sink.old) (W.told sink.new))
+        (of_run result) }
+{
+    match how {
+        Rewrite::Normal => run_normal(alloc, source, sink, limits),
+        Rewrite::Upgrade => run_upgrade(alloc, source, sink, limits),
+        Rewrite::Redact => run_redact(alloc, source, sink, limits),
     }
 }
 
