@@ -59,8 +59,7 @@ class Essence:
         kept = [kept_of(it) for it in lines]
         if not self.has_equal:
             kept = [it for it in kept if not it.startswith(("suspect ", "suspects "))]
-        # Of several snapshots that differ, one is enough.
-        return [it for place, it in enumerate(kept) if place == 0 or it != kept[place - 1]]
+        return kept
 
     def is_in(self, lines):
         """Whether an explanation has all of this."""

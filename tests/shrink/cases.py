@@ -231,6 +231,23 @@ def shortens_a_late_702(program, place):
     ])
 
 
+def keeps_each_snapshot_that_differs(program, place):
+    """Two snapshots of a version that is set after them: both differ, and both stay."""
+    text = [*LINES]
+    log = head() + sent(opened(URI, 1, "".join(text))) + snapshot(URI, 1, "".join(text)) + chatter(40)
+    for letter in "yz":
+        text[7] = f"{letter}int value_7;\n"
+        log += snapshot(URI, 2, "".join(text)) + chatter(ord(letter))
+    leaves(program, place, log + sent(changed(URI, 2, edit((7, 0), (7, 0), "x"))), [
+        *HEAD,
+        opened_with(1, "int value_7;\n"),
+        "T 1 file:///a 'int value_7;\\n'",
+        "T 2 file:///a 'yint value_7;\\n'",
+        "T 2 file:///a 'zint value_7;\\n'",
+        change_of(2, (0, 0, 0, 0, "x")),
+    ])
+
+
 def shortens_a_608(program, place):
     """Whole texts: of each, a line that it changes stays."""
     answer = {"capabilities": {"textDocumentSync": {"openClose": True, "change": 1, "save": True}}}
@@ -448,6 +465,7 @@ TESTS = [
     keeps_texts_that_are_compared,
     leaves_out_changes_of_other_lines,
     shortens_a_late_702,
+    keeps_each_snapshot_that_differs,
     shortens_a_608,
     shortens_what_breaks_rules_of_changes,
     shortens_what_comes_too_late,
