@@ -1,12 +1,12 @@
 -- Which edits were made in a text that had changed since they were asked for, as the code has it.
-use Rattle.std.specs.Prelude.{◌&&◌, if◌then◌else◌, not, option_and_then, option_map}
+use Rattle.std.specs.Prelude.{◌&&◌, if◌then◌else◌, not, option_and_then}
 use Rattle.std.specs.Result.{result_ok}
 use Rattle.std.specs.Str.{bytes_eq}
 use Rattle.std.proofs.Common.{◌≡◌, ℕ, ℤ, Bool, true, false, List, Option, Some, None, refl, sym, ap}
 use Rattle.std.proofs.Common.{◌∙◌}
 use Rattle.std.specs.Prelude.{Result, Ok, Err}
 use Rattle.lsp_docs.specs.Calls.{Bytes, Call, Text}
-use Rattle.lsp_docs.specs.Documents.{Terms, Version, held}
+use Rattle.lsp_docs.specs.Documents.{Terms, held}
 use Rattle.lsp_docs.specs.Snapshots.{kept}
 use Rattle.lsp_replay.specs.declared.heard.EventPlace.{EventPlace}
 use Rattle.lsp_text.specs.Edits.{Edit, applied}
@@ -40,14 +40,6 @@ module _ (limit : ℕ) (enc : Encoding) (edits : List Edit) (now t : Text) where
 module _ (limit : ℕ) (enc : Encoding) (edits : List Edit) (older newer now : Option Text) where
   pub no_older : None ≡ older → false ≡ makes_late limit enc edits older newer now
   no_older is = ap (λ (o : Option Text). makes_late limit enc edits o newer now) is
-
-  pub no_newer : (a : Text) → Some a ≡ older → None ≡ newer
-      → false ≡ makes_late limit enc edits older newer now
-  no_newer a has is = λ i. makes_late limit enc edits (has i) (is i) now
-
-  pub no_now : (a b : Text) → Some a ≡ older → Some b ≡ newer → None ≡ now
-      → false ≡ makes_late limit enc edits older newer now
-  no_now a b has also is = λ i. makes_late limit enc edits (has i) (also i) (is i)
 
   module _ (a b t : Text) (has : Some a ≡ older) (also : Some b ≡ newer) (is : Some t ≡ now) where
     so : (makes limit enc edits t b && not (makes limit enc edits t a))

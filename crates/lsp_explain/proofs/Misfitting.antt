@@ -245,15 +245,3 @@ module _ (c : code.Call) (not : (enc : Encoding) (kind : SyncKind) (uri : Bor (L
       by_call (Closes uri) not = refl
       by_call (Saves uri text) not = refl
       by_call (Shows uri number text) not = refl
-
-  pub finds_none : (p : EventPlace) (f : Findings) → finds p (call_view c) f ≡ None
-  finds_none p f = by_call c not
-    where
-      by_call : (c : code.Call) → ((enc : Encoding) (kind : SyncKind) (uri : Bor (List ℕ))
-          (number : ℤ) (cs : Bor (List Change)) → c ≡ Changes enc kind uri number cs → ⊥)
-          → finds p (call_view c) f ≡ None
-      by_call (Opens uri number text) not = refl
-      by_call (Changes enc kind uri number cs) not = absurd (not enc kind uri number cs refl)
-      by_call (Closes uri) not = refl
-      by_call (Saves uri text) not = refl
-      by_call (Shows uri number text) not = refl

@@ -1,48 +1,21 @@
 -- How much room the changes of messages take, and what is held while room is made for more.
-use Rattle.std.specs.Prelude.{ℤ, int_lt, nat_lt, not, ◌&&◌, filter, is_some, length, MatchOption}
+use Rattle.std.specs.Prelude.{ℤ, int_lt, filter}
 use Rattle.std.specs.Prelude.{if◌then◌else◌}
-use Rattle.std.proofs.Common.{◌≡◌, ◌⊎◌, ◌≤◌, ◌<◌, ◌+◌, ℕ, Bool, true, false, List, [], ◌∷◌, ◌++◌}
-use Rattle.std.proofs.Common.{Option, Some, None, refl, sym, ap, ◌∙◌, arith, append_assoc, inl, inr}
-use Rattle.std.proofs.Common.{drop, get_or, subst}
-use Rattle.std.proofs.lemmas.Bool.Decides.{nat_tests}
-use Rattle.std.proofs.lemmas.List.{at_drop_more, length_push, map-append}
-use Rattle.std.proofs.lemmas.List.Sums.{sum_by-cons, sum_by_push}
-use Rattle.lsp_types.specs.declared.change.Change.{Change}
-use Rattle.lsp_text.specs.Changes.{edit_of, edits_of}
+use Rattle.std.proofs.Common.{◌≡◌, ◌⊎◌, ◌≤◌, ◌+◌, ℕ, Bool, true, false, List, [], ◌∷◌, ◌++◌}
+use Rattle.std.proofs.Common.{Some, refl, sym, ap, ◌∙◌, arith, append_assoc, inl, inr}
+use Rattle.std.proofs.Common.{subst}
+use Rattle.std.proofs.lemmas.List.{map-append}
+use Rattle.std.proofs.lemmas.List.Sums.{sum_by-cons}
+use Rattle.lsp_text.specs.Changes.{edits_of}
 use Rattle.lsp_text.specs.Edits.{Edit}
-use Rattle.lsp_explain.specs.Bases.{AddsTo, DropsFirst, HoldsMore, IsRoom, LeavesRoom, LetsGo}
+use Rattle.lsp_explain.specs.Bases.{AddsTo, DropsFirst, HoldsMore, LeavesRoom, LetsGo}
 use Rattle.lsp_explain.specs.Bases.{later, sent_in, text_in}
-use Rattle.lsp_explain.specs.SentEdits.{SentEdits, are_few, edits_size, most_sent, most_size}
+use Rattle.lsp_explain.specs.SentEdits.{SentEdits, are_few}
 use Rattle.lsp_explain.specs.SentEdits.{sent_edits, sent_size, sent_view, sents_view, total_size}
-use Rattle.lsp_explain.specs.SentEdits.{weight}
 use Rattle.lsp_explain.specs.declared.trail.base.Base.{Base}
 use Rattle.lsp_explain.specs.declared.trail.base.SentChanges.{SentChanges}
 
 -- ---- sizes
-
--- of the changes from this one on
-pub size_from : (cs : List Change) (i : ℕ) (c : Change) → i < length cs → c ≡ get_or cs i c
-    → edits_size (edits_of (drop i cs)) ≡ weight (edit_of c) + edits_size (edits_of (drop (i + 1) cs))
-size_from cs i c lt is =
-    at_drop_more (λ (l : List Change). edits_size (edits_of l)) cs i c lt
-    ∙ sum_by-cons weight (edit_of (get_or cs i c)) (edits_of (drop (i + 1) cs))
-    ∙ ap (λ (x : Change). weight (edit_of x) + edits_size (edits_of (drop (i + 1) cs))) (sym is)
-
--- of those of the messages from this one on
-pub total_from : (sent : List SentChanges) (i : ℕ) (s : SentChanges) → i < length sent
-    → s ≡ get_or sent i s
-    → total_size (sents_view (drop i sent))
-    ≡ edits_size (edits_of s.changes.items) + total_size (sents_view (drop (i + 1) sent))
-total_from sent i s lt is =
-    at_drop_more (λ (l : List SentChanges). total_size (sents_view l)) sent i s lt
-    ∙ sum_by-cons sent_size (sent_view (get_or sent i s)) (sents_view (drop (i + 1) sent))
-    ∙ ap (λ (x : SentChanges). edits_size (edits_of x.changes.items)
-    + total_size (sents_view (drop (i + 1) sent))) (sym is)
-
--- of the first message, and the others
-pub total_first : (first : SentEdits) (sent : List SentEdits)
-    → total_size (first ∷ sent) ≡ edits_size first.edits + total_size sent
-total_first first sent = sum_by-cons sent_size first sent
 
 pub total-filter : (p : SentChanges → Bool) (sent : List SentChanges)
     → total_size (sents_view (filter p sent)) ≤ total_size (sents_view sent)
@@ -63,42 +36,6 @@ total-filter p (s ∷ sent) = by_test (p s) (total-filter p sent)
         omega (arith, less, sum_by-cons sent_size (sent_view s) (sents_view sent))
 
 -- ---- room
-
-few_so : (n t : ℕ) → n ≤ most_sent → t ≤ most_size
-    → (not (nat_lt most_sent n) && not (nat_lt most_size t)) ≡ true
-few_so n t some small = grind (arith, nat_tests)
-
-too_many_so : (n t : ℕ) → most_sent < n → (not (nat_lt most_sent n) && not (nat_lt most_size t)) ≡ false
-too_many_so n t many = grind (arith, nat_tests)
-
-too_large_so : (n t : ℕ) → most_size < t → (not (nat_lt most_sent n) && not (nat_lt most_size t)) ≡ false
-too_large_so n t large = grind (arith, nat_tests)
-
--- there is none for one more message
-pub no_room : (sent : List SentEdits) (more : SentEdits) → most_sent ≤ length sent
-    → are_few (sent ++ more ∷ []) ≡ false
-no_room sent more many =
-    too_many_so (length (sent ++ more ∷ [])) (total_size (sent ++ more ∷ []))
-    (omega (arith, length_push sent more))
-
--- there is as much as these changes leave of it
-pub room_left : (sent : List SentEdits) (more : SentEdits) (room : ℕ) (left : Option ℕ)
-    → length sent < most_sent → room + total_size sent ≡ most_size
-    → MatchOption left (room < edits_size more.edits) (λ l. l + edits_size more.edits ≡ room)
-    → IsRoom sent more left
-room_left sent more room None some counted less =
-    too_large_so (length (sent ++ more ∷ [])) (total_size (sent ++ more ∷ []))
-    (omega (arith, sum_by_push sent_size sent more))
-room_left sent more room (Some l) some counted is = (
-  few_so (length (sent ++ more ∷ [])) (total_size (sent ++ more ∷ []))
-      (omega (arith, length_push sent more)) (omega (arith, sum_by_push sent_size sent more)),
-  omega arith,
-)
-
-pub has_room_so : (sent : List SentEdits) (more : SentEdits) (left : Option ℕ)
-    → IsRoom sent more left → is_some left ≡ are_few (sent ++ more ∷ [])
-has_room_so sent more None is = sym is
-has_room_so sent more (Some l) is = sym is.0
 
 -- ---- room is made
 
@@ -168,28 +105,6 @@ adds_room more edits left old now new own leaves holds = record {
     few : are_few (sent_in now ++ more ∷ []) ≡ true
     few = ap (λ (es : List Edit). are_few (sent_in now ++ sent_edits more.number es ∷ [])) own
         ∙ (leaves.is more.number).0
-
--- there is none, though nothing else is held
-pub adds_none : (more : SentEdits) (edits : List Edit) (old now new : Base) → more.edits ≡ edits
-    → LeavesRoom edits None old now → new.since ≡ more.number → text_in new ≡ None
-    → sent_in new ≡ sent_in now → AddsTo more old new
-adds_none more edits old now new own leaves since text same =
-    let none : sent_in new ≡ [] = same ∙ leaves.none in
-    record {
-      few = ap are_few none ∙ refl;
-      how = inr (record {
-        front = sent_in old;
-        last = more;
-        all = ap (λ (l : List SentEdits). sent_in old ++ more ∷ l) (sym none);
-        many = ap (λ (l : List SentEdits). are_few (more ∷ l)) none
-            ∙ ap (λ (es : List Edit). are_few (sent_edits more.number es ∷ [])) own
-            ∙ ap (λ (l : List SentEdits). are_few (l ++ sent_edits more.number edits ∷ []))
-            (sym leaves.none)
-            ∙ leaves.is more.number;
-        since = since;
-        text = text;
-      });
-    }
 
 -- ---- as the messages are held
 

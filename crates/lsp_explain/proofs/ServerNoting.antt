@@ -3,7 +3,7 @@ use Rattle.std.specs.Borrow.{Bor}
 use Rattle.std.specs.Prelude.{is_some, option_and_then, option_map, unwrap_or}
 use Rattle.std.specs.Prelude.{if◌then◌else◌, get_or, take, ℤ}
 use Rattle.std.specs.List.{cons_option, filter_map}
-use Rattle.std.proofs.Common.{◌≡◌, ◌<◌, ◌+◌, ℕ, length, map, Bool, true, false, List, [], ◌∷◌, ◌++◌, Option, Some, None}
+use Rattle.std.proofs.Common.{◌≡◌, ◌<◌, ◌+◌, ℕ, length, map, Bool, false, List, [], ◌∷◌, ◌++◌, Option, Some, None}
 use Rattle.std.proofs.Common.{refl, sym, ap, ◌∙◌, subst, append-nil, append_assoc, arith}
 use Rattle.std.proofs.lemmas.List.{map-append, take_more}
 use Rattle.std.proofs.lemmas.List.Elements.{filter_map-append}
@@ -41,7 +41,7 @@ use Rattle.lsp_replay.specs.declared.heard.EventPlace.{EventPlace}
 use Rattle.lsp_replay.proofs.Seeing.{events-push}
 use Rattle.lsp_outline.specs.Versions.{versioned_at}
 use Rattle.lsp_explain.specs.DocumentNotes.{DocumentNote, document_note, first_notes}
-use Rattle.lsp_explain.specs.DocumentNotes.{is_noted, notes_view, with_note}
+use Rattle.lsp_explain.specs.DocumentNotes.{notes_view, with_note}
 use Rattle.lsp_explain.specs.EditRequests.{EditRequest, Holds, edit_requests, event_request}
 use Rattle.lsp_explain.specs.EditRequests.{most_requests}
 use Rattle.lsp_explain.specs.EditRequests.{request_of}
@@ -217,18 +217,6 @@ notes_by_more terms before event es e old mid new first second =
     joined f was then_ now one two =
         notes_joined was then_ now (filter_map f es) (filter_map f (e ∷ [])) one two
         ∙ ap (with_notes was) (sym (filter_map-append f es (e ∷ [])))
-
--- for none
-pub notes_by_none : (terms : Terms) (before : List Event) (event : Event) (s : ServerEdits)
-    → NotesBy terms before event [] s s
-notes_by_none terms before event s = record {
-  asked = refl;
-  late_more = λ answers are. are ∙ ap (last_ones most_late) (sym (append-nil answers));
-  late_edits = refl;
-  outside_more = refl;
-  overlaps_more = refl;
-  unsent_more = refl;
-}
 
 -- where there are none
 pub none_in : {A : Type 0} (xs : List A) → length xs ≡ 0 → xs ≡ []
@@ -426,15 +414,6 @@ pub one_noted : (notes : List DocumentNote) (o : Option DocumentNote)
     → with_notes notes (cons_option o []) ≡ with_note notes o
 one_noted notes None = refl
 one_noted notes (Some n) = refl
-
--- there is one on the document, or no room for one
-pub noted_already : (notes : List DocumentNote) (uri : List ℕ) (p : EventPlace)
-    (words : Option (List ℕ)) → is_noted uri notes ≡ true
-    → notes ≡ with_note notes (option_map (document_note (on_document uri p)) words)
-noted_already notes uri p None is = refl
-noted_already notes uri p (Some own) is =
-    ap (λ (b : Bool). if b then notes else notes ++ document_note (on_document uri p) own ∷ [])
-    (sym is)
 
 -- without edits nothing is looked at
 pub no_edits : (terms : Terms) (before : List Event) (event : Event) (e : Edited)

@@ -1,24 +1,13 @@
 -- Which snapshots were not compared, with one event more.
-use Rattle.std.specs.Prelude.{ℤ, int_lt, if◌then◌else◌, option_and_then, reverse, String}
-use Rattle.std.specs.Global.{Global}
+use Rattle.std.specs.Prelude.{if◌then◌else◌, option_and_then, reverse}
 use Rattle.std.specs.List.{cons_option, find}
 use Rattle.std.specs.Str.{bytes_eq}
 use Rattle.std.proofs.Common.{◌≡◌, Bool, true, false, List, [], ◌∷◌, ◌++◌, Option, Some, None}
 use Rattle.std.proofs.Common.{refl, ap, ◌∙◌, append-nil, sym}
 use Rattle.std.proofs.lemmas.List.{reverse-append}
 use Rattle.lsp_docs.specs.Calls.{Bytes}
-use Rattle.lsp_explain.specs.Uncompared.{LeavesOn, LeftOf, ShownText, is_left_of, last_left}
+use Rattle.lsp_explain.specs.Uncompared.{LeftOf, is_left_of, last_left}
 use Rattle.lsp_explain.specs.Uncompared.{left_on}
-use Rattle.lsp_explain.specs.declared.trail.uncompared.ShownText as code
-
--- nothing is left
-pub leaves_none : (o : Option LeftOf) (es : List (String Global × code.ShownText)) → o ≡ None
-    → LeavesOn o es es
-leaves_none o es none = λ uri. by_none o none uri
-  where
-    by_none : (w : Option LeftOf) → w ≡ None → LeavesOn w es es
-    by_none None is uri = refl
-    by_none (Some l) is uri = absurd (cc is)
 
 -- this is left behind the others
 pub left_more : (uri : Bytes) (all : List LeftOf) (o : Option LeftOf)

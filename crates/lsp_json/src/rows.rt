@@ -4,9 +4,33 @@
 /// What a line is, and the pattern of its words.
 pub(crate) type Row = (&'static str, &'static str);
 
-/// The rows of the lines of a report: of a verdict, of a log that was not judged, of details, of
-/// notes, and of events.
+/// The rows of the lines of a report: of events, of a verdict, of a log that was not judged, of
+/// details, and of notes. Those of events come first, since they take most lines of a long report.
 pub(crate) const ROWS: [Row; 116] = [
+    (
+        "notification",
+        "event=* side=* notification method=* number=* uri=* version=*",
+    ),
+    (
+        "notification",
+        "event=* side=* notification method=* number=* uri=*",
+    ),
+    (
+        "notification",
+        "event=* side=* notification method=* number=*",
+    ),
+    ("request", "event=* side=* request id=* method=* number=*"),
+    ("result", "event=* side=* result id=* number=*"),
+    ("error", "event=* side=* error id=* code=* number=*"),
+    (
+        "snapshot",
+        "event=* snapshot version=* bytes=* uri=* number=*",
+    ),
+    ("notification", "event=* side=* notification method=*"),
+    ("request", "event=* side=* request id=* method=*"),
+    ("result", "event=* side=* result id=*"),
+    ("error", "event=* side=* error id=* code=*"),
+    ("snapshot", "event=* snapshot version=* bytes=* uri=*"),
     ("yes", "yes"),
     ("yes", "yes remark=nothing-compared"),
     ("read fault", "read fault"),
@@ -135,28 +159,4 @@ pub(crate) const ROWS: [Row; 116] = [
     ("note", "note note=outside line=* column=* @"),
     ("note", "note note=overlap @"),
     ("note", "note note=unsent version=* @"),
-    ("request", "event=* side=* request id=* method=*"),
-    ("request", "event=* side=* request id=* method=* number=*"),
-    ("notification", "event=* side=* notification method=*"),
-    (
-        "notification",
-        "event=* side=* notification method=* number=*",
-    ),
-    (
-        "notification",
-        "event=* side=* notification method=* number=* uri=*",
-    ),
-    (
-        "notification",
-        "event=* side=* notification method=* number=* uri=* version=*",
-    ),
-    ("result", "event=* side=* result id=*"),
-    ("result", "event=* side=* result id=* number=*"),
-    ("error", "event=* side=* error id=* code=*"),
-    ("error", "event=* side=* error id=* code=* number=*"),
-    ("snapshot", "event=* snapshot version=* bytes=* uri=*"),
-    (
-        "snapshot",
-        "event=* snapshot version=* bytes=* uri=* number=*",
-    ),
 ];

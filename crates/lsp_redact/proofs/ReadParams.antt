@@ -12,13 +12,13 @@ use Rattle.lsp_rpc.specs.Act.{Act, Change, Offer, Text, cancel, did_change, did_
 use Rattle.lsp_rpc.specs.Act.{early, exit, initialize, initialized, other, progress, register, shutdown}
 use Rattle.lsp_rpc.specs.Ident as ident
 use Rattle.lsp_rpc.specs.Ident.{Ident}
-use Rattle.lsp_rpc.specs.Params.{all_of, both, cancel_at, change_at, did_change_at, did_close_at}
+use Rattle.lsp_rpc.specs.Params.{all_of, both, cancel_at, change_at, did_change_at}
 use Rattle.lsp_rpc.specs.Params.{did_open_at, did_save_at, initialize_at, position_at, progress_at}
 use Rattle.lsp_rpc.specs.Params.{register_at, required, span_at}
 use Rattle.lsp_rpc.specs.Shape.{unless_null}
 use Rattle.lsp_types.specs.declared.position.Position.{Position}
 use Rattle.lsp_types.specs.declared.position.Span.{Span}
-use Rattle.lsp_redact.specs.Messages.{change_data, changed_data, closed_data, id_data, integer}
+use Rattle.lsp_redact.specs.Messages.{change_data, changed_data, id_data, integer}
 use Rattle.lsp_redact.specs.Messages.{offer_data, opened_data, params_of, position_data, registered_data}
 use Rattle.lsp_redact.specs.Messages.{registration_data, saved_data, span_data, text_data}
 use Rattle.lsp_redact.proofs.ReadBack.{AreWritable, IsWritable}
@@ -219,9 +219,6 @@ pub did_change_back : (uri : Text) (version : ℤ) (changes : List Change) → I
     → did_change_at (changed_data uri version changes) ≡ Some (did_change uri version changes)
 did_change_back uri version changes h all =
     rw (integer_back version h, items_back change_data IsGoodChange change_at change_back changes all)
-
-pub did_close_back : (uri : Text) → did_close_at (closed_data uri) ≡ Some (did_close uri)
-did_close_back uri = refl
 
 pub did_save_back : (uri : Text) (text : Option Text)
     → did_save_at (saved_data uri text) ≡ Some (did_save uri text)

@@ -215,17 +215,6 @@ module _ (u : Bytes → Bytes) (i : Ident → Ident) (m e t : Text → Text) (r 
   offence-by terms before (snapshot uri number text) =
       document_rule-by terms before (snapshot uri number text)
 
-  -- the same where the rule on documents stays
-  pub offence_kept : (terms : Terms) (before : List Event) (event : Event)
-      → document_rule terms (map event_by before) (event_by event) ≡ document_rule terms before event
-      → offence terms (map event_by before) (event_by event) ≡ offence terms before event
-  offence_kept terms before (fault side rule) same = refl
-  offence_kept terms before (message s) same =
-      ap (λ (o : Option ℕ). option_or o
-      (document_rule terms (map event_by before) (message (sent_to s)))) (rule_in-by before s)
-      ∙ ap (option_or (rule_after (sent_in before) s)) same
-  offence_kept terms before (snapshot uri number text) same = same
-
   -- ---- numbers
 
   is_of-by : (side : Side) (event : Event) → is_of side (event_by event) ≡ is_of side event

@@ -26,13 +26,6 @@ joined-none a = λ i. record {
 
 -- ---- what is shown
 
--- no name is seen
-pub shows_none : {X : Type 0} (names : code.Names) (x : X) → Shows names names no_names (λ n. x) x
-shows_none names x = record {
-  stands = λ before is. subst (Stands names) (sym (joined-none before)) is;
-  value = λ before whole is begins. refl;
-}
-
 -- something is made of it
 pub shows_made : {X Y : Type 0} {old new : code.Names} {a : Names} {f : Names → X} {x : X}
     (make : X → Y) (y : Y) → y ≡ make x → Shows old new a f x → Shows old new a (λ n. make (f n)) y
@@ -63,9 +56,6 @@ shows_both {old = old} {mid = mid} {new = new} {a = a} {b = b} {f = f} {g = g} {
 }
 
 -- ---- what is written, while one character stays apart
-
-pub writes_none : {X : Type 0} (r : Redaction) (x : X) → Writes r r no_names (λ n. x) x
-writes_none r x = record { same = refl; shows = shows_none r.names x }
 
 pub writes_made : {X Y : Type 0} {old new : Redaction} {a : Names} {f : Names → X} {x : X}
     (make : X → Y) (y : Y) → y ≡ make x → Writes old new a f x → Writes old new a (λ n. make (f n)) y

@@ -4,10 +4,10 @@ use Rattle.std.proofs.Common.{get_or}
 use Rattle.std.proofs.Common.{sym, ap, ap₂, subst, ⊎_elim, ◌∙◌, arith}
 use Rattle.std.proofs.Common.{zero, suc, length-append, length-drop}
 use Rattle.std.proofs.lemmas.Bool.{cases_lt}
-use Rattle.std.proofs.lemmas.List.{take-append-drop, take_all, drop_all, drop-append-le, drop-drop}
+use Rattle.std.proofs.lemmas.List.{take-append-drop, drop_all, drop-append-le, drop-drop}
 use Rattle.std.proofs.lemmas.List.{length-map}
 use Rattle.std.specs.Str.{IsUtf8, IsCharBoundary}
-use Rattle.std.proofs.lemmas.Str.{IsCharBoundary-end, IsCharBoundary-start}
+use Rattle.std.proofs.lemmas.Str.{IsCharBoundary-start}
 use Rattle.std.proofs.lemmas.Str.{IsCharBoundary-from_rest}
 use Rattle.lsp_text.specs.Parting.{AreSameFrom}
 use Rattle.lsp_text.specs.Parts.{joined, part_at, AreParts}
@@ -93,44 +93,6 @@ pub record IsBackAt (ps : List (List ℕ)) (other : List ℕ) (from index start 
   pub inside : start ≤ length (joined ps)
   pub ends : AreSameFrom (joined ps) other same
   pub room : from + same ≤ length (joined ps)
-
--- nothing is compared yet
-back_all : (ps : List (List ℕ)) (other : List ℕ) (from index len : ℕ)
-    → IsCharBoundary (joined ps) from → index ≡ length ps → len ≡ length (joined ps)
-    → IsBackAt ps other from index len 0
-back_all ps other from index len b index_is len_is =
-    let bs = joined ps in
-    let here : length bs ≡ length bs - 0 = omega arith in
-    let there : length other ≡ length other - 0 = omega arith in
-    record {
-      within = omega arith;
-      start_is =
-          len_is
-          ∙ ap (λ (xs : List (List ℕ)). length (joined xs))
-          (sym (take_all index ps (omega arith)));
-      inside = omega arith;
-      ends =
-          record {
-            ends =
-                record {
-                  left = omega arith;
-                  right = omega arith;
-                  same =
-                      drop_all (length bs - 0) bs (omega arith)
-                      ∙ sym (drop_all (length other - 0) other (omega arith));
-                };
-            left = subst (IsCharBoundary bs) here (IsCharBoundary-end bs);
-            right = subst (IsCharBoundary other) there (IsCharBoundary-end other);
-          };
-      room = omega (arith, b.0);
-    }
-
-pub back_first : {X : Type 0} (f : X → List ℕ) (xs : List X) (other : List ℕ) (from : ℕ) (s : Sums)
-    → IsCharBoundary (joined (map f xs)) from → s ≡ sums_of (joined (map f xs))
-    → IsBackAt (map f xs) other from (length xs) s.bytes 0
-back_first f xs other from s b is =
-    back_all (map f xs) other from (length xs) s.bytes b (sym (length-map xs f))
-    (ap (λ (t : Sums). t.bytes) is)
 
 -- there is a part before
 pub record IsBefore (len index : ℕ) : Type 0 where
