@@ -115,14 +115,14 @@ class Joins:
     def answered(self, event):
         """The request that a response answers, and its row. One that breaks a rule is skipped, so
         its request stays open."""
-        if event.kind not in ("result", "error") or not isinstance(event.id, (int, str)):
+        if not isinstance(event.id, (int, str)):
             return None, None
         requests, key = self.open[1 - event.side], key_of(event.id)
         return requests.get(key, (None, None)) if event.rule else requests.pop(key, (None, None))
 
     def cancelled(self, event, message):
         """The request that a notification cancels, and its row."""
-        if event.method != "$/cancelRequest" or event.kind != "notification" or event.rule:
+        if event.kind != "notification" or event.rule:
             return None, None
         id = at(message, "params", "id")
         key = key_of(id) if isinstance(id, (int, str)) else None
@@ -205,15 +205,17 @@ class Session:
 
     def join(self, event, message):
         """The request that this event answers or cancels; its row learns of it."""
-        for column, (request, row) in (
-            ("broken" if event.rule else "partner", self.joins.answered(event)),
-            ("cancel", self.joins.cancelled(event, message)),
-        ):
-            if row is not None:
-                self.rows.joins[column][row] = event.event
-            if request is not None:
-                return request
-        return None
+        if event.kind in ("result", "error"):
+            column = "broken" if event.rule else "partner"
+            request, row = self.joins.answered(event)
+        elif event.method == "$/cancelRequest":
+            column = "cancel"
+            request, row = self.joins.cancelled(event, message)
+        else:
+            return None
+        if row is not None:
+            self.rows.joins[column][row] = event.event
+        return request
 
     def note_handshake(self, event, message, asked):
         """Who the two sides are, and what they agree on."""
