@@ -1,20 +1,18 @@
 -- What edits make of a text, as the code makes it.
-use Rattle.std.specs.Prelude.{◌==◌, ◌&&◌, ◌||◌, nat_lt, not, if◌then◌else◌, option_and_then, option_map}
+use Rattle.std.specs.Prelude.{not, if◌then◌else◌, option_and_then, option_map}
 use Rattle.std.specs.List.{fold, insert, prefix_len}
 use Rattle.std.specs.Str.{chars, IsUtf8}
 use Rattle.std.proofs.Common.{◌≡◌, ◌≤◌, ◌<◌, ◌+◌, ◌-◌, ℕ, Bool, true, false, List, [], ◌∷◌, ◌++◌}
-use Rattle.std.proofs.Common.{Option, Some, None, refl, sym, ap, ◌∙◌, arith, append_assoc, append-nil}
-use Rattle.std.proofs.Common.{drop, get_or, length, map, take, inl, inr, ⊎_elim}
-use Rattle.std.proofs.lemmas.List.{drop-map, drop_all, drop_at, length-take-le, map-append, take-map}
-use Rattle.std.proofs.lemmas.List.{take_all, at_drop_more}
-use Rattle.std.proofs.lemmas.Str.{IsUtf8-append, IsUtf8-drop, IsUtf8-take, chars-append}
+use Rattle.std.proofs.Common.{Option, Some, None, refl, sym, ap, ◌∙◌, arith, append_assoc}
+use Rattle.std.proofs.Common.{drop, get_or, length, subst, take, ⊎_elim}
+use Rattle.std.proofs.lemmas.List.{drop-map, drop_all, drop_at, drop_more, length-take-le, map-append}
+use Rattle.std.proofs.lemmas.List.{take-map, take_all}
+use Rattle.std.proofs.lemmas.Str.{IsUtf8-append, IsUtf8-drop, IsUtf8-nil, IsUtf8-take, chars-append}
+use Rattle.std.proofs.lemmas.Str.{chars-nil}
 use Rattle.lsp_types.specs.declared.position.Encoding.{Encoding}
 use Rattle.lsp_types.specs.declared.position.Encoding.TheVariants.{Utf32}
-use Rattle.lsp_types.specs.declared.change.Change.{Change}
-use Rattle.lsp_text.specs.Changes.{edit_of, edits_of}
 use Rattle.lsp_text.specs.Edits.{Edit}
 use Rattle.lsp_text.specs.Offsets.{IsOffset}
-use Rattle.lsp_text.specs.Places.{units}
 use Rattle.lsp_text.proofs.Denoting.{IsBefore, place_in_line-sound}
 use Rattle.lsp_text.proofs.Splices.{chars-cut}
 use Rattle.lsp_text.proofs.Widths.{IsFront, is_front, units-utf32}
@@ -67,6 +65,18 @@ split_text bs k offset u o =
       back_utf8 = IsUtf8-drop bs offset u o.boundary;
     }
 
+pub split_so : (bs front back : List ℕ) (column count offset : ℕ) → column ≡ count
+    → front ≡ take offset bs → back ≡ drop offset bs → IsUtf8 bs → IsOffset Utf32 bs column offset
+    → IsSplit count bs front back
+split_so bs front back column count offset same f b u o =
+    let h : IsSplit column bs (take offset bs) (drop offset bs) = split_text bs column offset u o in
+    record {
+      front_is = ap chars f ∙ h.front_is ∙ ap (λ k. take k (chars bs)) same;
+      back_is = ap chars b ∙ h.back_is ∙ ap (λ k. drop k (chars bs)) same;
+      front_utf8 = subst IsUtf8 (sym f) h.front_utf8;
+      back_utf8 = subst IsUtf8 (sym b) h.back_utf8;
+    }
+
 -- ---- what is written
 
 -- what comes before an edit, and its text
@@ -84,6 +94,7 @@ put_next here t old front back held left own at u w a b =
           ∙ append_assoc (chars old) (chars front) (chars own)
           ∙ ap (λ x. chars old ++ (x ++ chars own)) a.front_is;
       left_is = b.back_is ∙ ap (drop (at.second - at.first)) a.back_is;
+      left_utf8 = b.back_utf8;
     }
 
 -- ---- one edit after another
@@ -140,6 +151,21 @@ module _ (all : Option Text) (done : List ℕ) (here : ℕ) (rest : List ℕ) (s
             ∙ so.is;
       }
 
+-- nothing is written yet
+pub begins : (whole : List ℕ) (ss : List Splice) (done : List ℕ) → done ≡ []
+    → IsSoFar (made_from 0 (chars whole) ss) done 0 whole ss
+begins whole ss done is = record {
+  utf8 = subst IsUtf8 (sym is) IsUtf8-nil;
+  is =
+      ap (λ d. option_map (λ u. chars d ++ u) (made_from 0 (chars whole) ss)) is
+      ∙ ap (λ cs. option_map (λ u. cs ++ u) (made_from 0 (chars whole) ss)) chars-nil
+      ∙ nothing_before (made_from 0 (chars whole) ss);
+}
+  where
+    nothing_before : (o : Option Text) → option_map (λ u. [] ++ u) o ≡ o
+    nothing_before None = refl
+    nothing_before (Some u) = refl
+
 pub ends : (all : Option Text) (done : List ℕ) (here : ℕ) (rest : List ℕ)
     → IsSoFar all done here rest [] → Some (chars (done ++ rest)) ≡ all
 ends all done here rest so = ap Some (chars-append done rest so.utf8) ∙ so.is
@@ -147,12 +173,9 @@ ends all done here rest so = ap Some (chars-append done rest so.utf8) ∙ so.is
 -- ---- edits in the order of a text
 
 -- the next one and those behind it
-pub splices_from : (ss : List code.Splice) (i : ℕ) (s : code.Splice) → i < length ss
-    → s ≡ get_or ss i s
-    → splices_view (drop i ss) ≡ splice_view s ∷ splices_view (drop (i + 1) ss)
-splices_from ss i s lt is =
-    at_drop_more (λ (l : List code.Splice). splices_view l) ss i s lt
-    ∙ ap (λ (x : code.Splice). splice_view x ∷ splices_view (drop (i + 1) ss)) (sym is)
+pub splices_from : (ss : List code.Splice) (i : ℕ) (d : code.Splice) → i < length ss
+    → splices_view (drop i ss) ≡ splice_view (get_or ss i d) ∷ splices_view (drop (i + 1) ss)
+splices_from ss i d lt = ap splices_view (drop_more ss i d lt)
 
 -- one more
 pub placed-view : (done : List code.Splice) (one : code.Splice) (n : ℕ)

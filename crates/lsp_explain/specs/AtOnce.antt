@@ -1,5 +1,5 @@
 -- What edits make of a text, if all their ranges are in it (LSP 3.17, TextEdit[]).
-use Rattle.std.specs.Prelude.{◌≡◌, ◌==◌, ◌&&◌, ◌||◌, ◌-◌, ℕ, nat_lt, not, Bool, true, false, List, []}
+use Rattle.std.specs.Prelude.{◌≡◌, ◌==◌, ◌&&◌, ◌||◌, ◌-◌, ℕ, nat_lt, not, Bool, false, List, []}
 use Rattle.std.specs.Prelude.{◌∷◌, ◌++◌, drop, take, if◌then◌else◌, map, Option, Some, None}
 use Rattle.std.specs.Prelude.{option_and_then, option_map}
 use Rattle.std.specs.List.{fold, insert, prefix_len}
@@ -103,6 +103,7 @@ pub record IsPut (here : ℕ) (t : Text) (s : Splice) (old new left : List ℕ) 
   pub utf8 : IsUtf8 new
   pub made : chars new ≡ chars old ++ (front_of here s.at t ++ s.text)
   pub left_is : chars left ≡ back_of here s.at t
+  pub left_utf8 : IsUtf8 left
 
 -- a text is cut behind so many characters, or at its end
 pub record IsSplit (count : ℕ) (text front back : List ℕ) : Type 0 where

@@ -2,7 +2,6 @@
 use Rattle.std.proofs.Common.{◌≡◌, ℕ, List, [], ◌∷◌, Some, None, refl}
 use Rattle.std.specs.Prelude.{codes}
 use Rattle.lsp_text.specs.Edits.{Edit}
-use Rattle.lsp_types.specs.declared.position.Encoding.{Encoding}
 use Rattle.lsp_types.specs.declared.position.Encoding.TheVariants.{Utf8, Utf16, Utf32}
 use Rattle.lsp_explain.specs.AtOnce.{made_at_once}
 
@@ -42,7 +41,7 @@ past_line_too = refl
 
 -- ---- lines typed meanwhile, or not there
 
-past_lines : List Edit
+abbrev past_lines : List Edit
 past_lines = ins 0 9 (codes "0") ∷ edit 1 0 1 9 (codes "1") ∷ ins 2 9 (codes "2")
     ∷ ins 3 0 (codes "3") ∷ []
 
@@ -89,10 +88,10 @@ no_edits = refl
 
 -- ---- a text of characters of two, four and one bytes, in each encoding
 
-mixed : List ℕ
+abbrev mixed : List ℕ
 mixed = 233 ∷ 128512 ∷ 98 ∷ []
 
-changed : List ℕ
+abbrev changed : List ℕ
 changed = 101 ∷ 128512 ∷ 120 ∷ []
 
 by_bytes : made_at_once Utf8 mixed (edit 0 6 0 9 (codes "x") ∷ edit 0 0 0 2 (codes "e") ∷ [])

@@ -162,6 +162,5 @@ fn count_before(done: &[Splice<'_>], stretch: Stretch) -> usize
 fn is_first(stretch: Stretch, other: Stretch) -> bool
     ensures { result ≡ spec.is_first stretch other }
 {
-    stretch.first < other.first
-        || (stretch.first == other.first && stretch.second < other.second)
+    stretch.first < other.first || (stretch.first == other.first && stretch.second < other.second)
 }
