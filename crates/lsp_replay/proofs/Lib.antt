@@ -25,3 +25,4 @@ pub mod AllHeard
 pub mod TextRuns
 pub mod Outputs
 pub mod RunLaws
+pub mod JsonSteps

@@ -13,7 +13,7 @@ use crate::command_line::task::{Explanation, Extent, Report, Request, Rewrite, T
 use clap::error::ErrorKind;
 use clap::{ArgMatches, Error};
 use lsp_explain::ComparedText;
-use lsp_json_run::Form;
+use lsp_replay::Form;
 use lsp_types::LineEnds;
 use lsp_verdict::{Completeness, Lines, Listing, Mode};
 use std::alloc::{AllocError, Global};

@@ -3,9 +3,9 @@ use Rattle.std.specs.Prelude.{◌≡◌, ℕ, List, [], false, Result}
 use Rattle.lsp_docs.specs.Documents.{Terms}
 use Rattle.lsp_frame.specs.Bounds.{Bounds}
 use Rattle.lsp_json.specs.Rows.{json_lines}
-use Rattle.lsp_json_run.specs.declared.form.Form.{Form}
-use Rattle.lsp_json_run.specs.declared.form.Form.TheVariants as forms
 use Rattle.lsp_replay.specs.Run.{PassesOn, Run}
+use Rattle.lsp_replay.specs.declared.form.Form.{Form}
+use Rattle.lsp_replay.specs.declared.form.Form.TheVariants as forms
 use Rattle.lsp_verdict.specs.Heard.{Heard, Rests}
 use Rattle.lsp_verdict.specs.Runs.{Ports}
 use Rattle.lsp_verdict.specs.declared.outcome.Outcome.{Outcome}

@@ -1,8 +1,8 @@
 use Rattle.std.proofs.Common.{◌∙◌, length, sym}
 use Rattle.std.proofs.lemmas.Bool.{eqb-true}
 use Rattle.std.proofs.lemmas.List.{nil_from_length}
-use Rattle.lsp_json_run.proofs.JsonSteps.{nothing_added}
-use Rattle.lsp_json_run.proofs.as_json.push_objects.Goals as goal
+use Rattle.lsp_replay.proofs.JsonSteps.{nothing_added}
+use Rattle.lsp_replay.proofs.as_json.push_objects.Goals as goal
 
 pub returns-then-is_empty : goal.returns-then-is_empty
 returns-then-is_empty c =

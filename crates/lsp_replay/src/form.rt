@@ -1,13 +1,14 @@
 //! The forms in which what a run says is written.
 ghost use Rattle.std.specs.Prelude.{[]};
 ghost use Rattle.lsp_docs.specs.Documents.{Terms};
-ghost use Rattle.lsp_json_run.specs.JsonRun.{IsQuiet, run_in};
+ghost use Rattle.lsp_replay.specs.JsonRun.{IsQuiet, run_in};
 ghost use Rattle.lsp_replay.specs.Run.{PassesOn};
 ghost use Rattle.lsp_verdict.specs.Runs.{ports};
 
+use crate::account::Account;
 use crate::as_json::Json;
+use crate::one_pass::pass;
 use lsp_frame::{Limits, Sink, Source};
-use lsp_replay::{Account, pass};
 use lsp_verdict::{Outcome, RunFault};
 use std::alloc::Global;
 

@@ -1,4 +1,4 @@
-use Rattle.lsp_json_run.proofs.form.pass_in.Goals as goal
+use Rattle.lsp_replay.proofs.form.pass_in.Goals as goal
 
 pub returns-in-Lines : goal.returns-in-Lines
 returns-in-Lines g c = rw c.in-Lines.is (record { passes = c.pass.ensures.passes })

@@ -4,7 +4,7 @@ use Rattle.std.proofs.Common.{◌≡◌, ◌∙◌, ℕ, Some, Bool, true, false
 use Rattle.lsp_docs.specs.Documents.{Terms}
 use Rattle.lsp_frame.specs.Front.{header_front}
 use Rattle.lsp_json.specs.Rows.{json_lines}
-use Rattle.lsp_json_run.specs.JsonRun.{IsQuiet, json_run}
+use Rattle.lsp_replay.specs.JsonRun.{IsQuiet, json_run}
 use Rattle.lsp_replay.specs.Run.{Run, Tail}
 use Rattle.lsp_replay.specs.Telling.{Closes, Goes, Says, ShowsFault}
 use Rattle.lsp_replay.specs.declared.seen.Flow.{Flow}

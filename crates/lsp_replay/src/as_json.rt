@@ -1,10 +1,13 @@
 //! What an account says, as JSON.
 ghost use Rattle.std.specs.Prelude.{◌≡◌, ◌++◌, [], OnErr, OnOk, string_bytes};
 ghost use Rattle.lsp_json.specs.Rows.{json_lines};
-ghost use Rattle.lsp_json_run.specs.JsonRun.{IsQuiet, json_run};
+ghost use Rattle.lsp_replay.specs.JsonRun.{IsQuiet, json_run};
 
+use crate::account::Account;
+use crate::events::Events;
+use crate::log_events::{End, LogEvents};
+use crate::seen::{Flow, Seen};
 use lsp_json::push_json;
-use lsp_replay::{Account, End, Events, Flow, LogEvents, Seen};
 use lsp_rpc::Result;
 use lsp_text::Lined;
 use lsp_verdict::Outcome;

@@ -1,5 +1,5 @@
-use Rattle.lsp_json_run.proofs.JsonSteps.{json_closes}
-use Rattle.lsp_json_run.proofs.as_json.JsonAccount.end.Goals as goal
+use Rattle.lsp_replay.proofs.JsonSteps.{json_closes}
+use Rattle.lsp_replay.proofs.as_json.JsonAccount.end.Goals as goal
 
 pub returns : goal.returns
 returns g c = record {

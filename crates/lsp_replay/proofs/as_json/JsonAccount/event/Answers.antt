@@ -1,9 +1,9 @@
 use Rattle.std.proofs.Common.{subst, sym}
+use Rattle.lsp_replay.proofs.JsonSteps.{json_says, json_wants, some_rests}
 use Rattle.lsp_replay.proofs.Wanting.{on_err}
-use Rattle.lsp_json_run.specs.JsonRun.{IsQuiet}
+use Rattle.lsp_replay.specs.JsonRun.{IsQuiet}
 use Rattle.lsp_verdict.specs.Heard.{heard_events}
-use Rattle.lsp_json_run.proofs.JsonSteps.{json_says, json_wants, some_rests}
-use Rattle.lsp_json_run.proofs.as_json.JsonAccount.event.Goals as goal
+use Rattle.lsp_replay.proofs.as_json.JsonAccount.event.Goals as goal
 
 pub returns-in_err-flow-clause-asked : goal.returns-in_err-flow-clause-asked
 returns-in_err-flow-clause-asked g c = c.in_err-flow.ensures.asked
