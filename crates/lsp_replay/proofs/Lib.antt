@@ -26,3 +26,4 @@ pub mod TextRuns
 pub mod Outputs
 pub mod RunLaws
 pub mod JsonSteps
+pub mod JsonRuns
