@@ -48,3 +48,4 @@ pub mod QuietRuns
 pub mod BehindSteps
 pub mod NotedSteps
 pub mod NotesBeside
+pub mod ComparedTexts
