@@ -8,19 +8,19 @@ use Rattle.lsp_command.proofs.command_line.words.request_of.Goals as goal
 pub returns-in_err-found-clause-err : goal.returns-in_err-found-clause-err
 returns-in_err-found-clause-err c =
     let p = err_from_is_err_and c.from_residual.result c.from_residual.ensures.1 in
-    let refused = c.in_err-found.ensures in
+    let refused = c.in_err-found.ensures.err in
     rw (p.1, p.2) (refused.0, refused.1, inl refused.2)
 
 pub returns-in_err-requested-clause-err : goal.returns-in_err-requested-clause-err
 returns-in_err-requested-clause-err c =
     let from = c.from_residual-in_err-requested in
     let p = err_from_is_err_and from.result from.ensures.1 in
-    let found = c.in_ok-found.ensures in
+    let found = c.in_ok-found.ensures.ok in
     rw p.1 (found.0, found.1, inl (inl p.2))
 
 pub returns-in-Some-clause-ok : goal.returns-in-Some-clause-ok
 returns-in-Some-clause-ok c =
-    let found = c.in_ok-found.ensures in
+    let found = c.in_ok-found.ensures.ok in
     let asked = subst
     (λ (r : Option Request). RequestIn (subcommand_rows_of c.in_ok-found.found) r)
     c.in-Some.is c.in_ok-requested.ensures in (
@@ -36,12 +36,12 @@ pub returns-in_err-command_required-in-None-clause-err : goal.returns-in_err-com
 returns-in_err-command_required-in-None-clause-err c =
     let from = c.from_residual-in_err-command_required-in-None in
     let p = err_from_is_err_and from.result from.ensures.1 in
-    let found = c.in_ok-found.ensures in
+    let found = c.in_ok-found.ensures.ok in
     rw p.1 (found.0, found.1, inl (inl p.2))
 
 pub returns-clause-err : goal.returns-clause-err
 returns-clause-err c =
-    let found = c.in_ok-found.ensures in
+    let found = c.in_ok-found.ensures.ok in
     let none = subst
     (λ (r : Option Request). RequestIn (subcommand_rows_of c.in_ok-found.found) r)
     c.in-None.is c.in_ok-requested.ensures in (
