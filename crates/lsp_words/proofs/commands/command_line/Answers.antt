@@ -4,9 +4,9 @@ use Rattle.std.proofs.lemmas.Result.{IfOk-weaker}
 use Rattle.clap.specs.Words.{AddsSubcommand, App, Shape, app_of, shape_of, with_subcommand}
 use Rattle.clap.specs.declared.builder.command.Command.TheViews.{out-Command}
 use Rattle.clap.specs.declared.builder.command.Command.{Command}
-use Rattle.lsp_command.specs.CommandLine.{AreModes, Modes, check, event, explain}
-use Rattle.lsp_command.specs.CommandLine.{frames, normal, redact, show, text, upgrade}
-use Rattle.lsp_command.proofs.command_line.commands.command_line.Goals as goal
+use Rattle.lsp_words.specs.CommandLine.{AreModes, Modes, check, event, explain}
+use Rattle.lsp_words.specs.CommandLine.{frames, normal, redact, show, text, upgrade}
+use Rattle.lsp_words.proofs.commands.command_line.Goals as goal
 
 third_is_false : (a b g rest : Bool) → (a && (b && (not g && rest))) ≡ true → g ≡ false
 third_is_false true true false rest e = refl

@@ -4,8 +4,8 @@ use Rattle.std.proofs.Common.{◌≡◌, List, [], ◌∷◌, Option, Some, None
 use Rattle.clap.specs.Words.{App, Row, Text, all_of, fault_of, one_of, subcommand_of}
 use Rattle.clap.specs.declared.error.kind.ErrorKind.TheVariants as kind
 use Rattle.clap.proofs.OnLiterals.{clap_on_literals}
-use Rattle.lsp_command.specs.CommandLine.{command_line}
-use Rattle.lsp_command.proofs.Found.{some_modes}
+use Rattle.lsp_words.specs.CommandLine.{command_line}
+use Rattle.lsp_words.proofs.Line.{some_modes}
 
 abbrev line : App
 line = command_line some_modes
