@@ -1,7 +1,7 @@
 """What ./test and ./test quick run: docs/TESTING.md says what each of these shows.
 
-Beside the proofs run those that need no program, and those of which the program is only a tool, over
-one that is compiled with checks: at most half as many as there are processors, and with less
+Alongside the proofs run those that need no program, and those for which it is only a tool, over one
+that is compiled with checks: at most half as many as there are processors, and with less
 priority. What looks at the program itself runs over the proved one, when the proofs have passed, as
 many at a time as there are processors.
 """
