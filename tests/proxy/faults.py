@@ -10,6 +10,7 @@ import subprocess
 import time
 from pathlib import Path
 
+from processes import Skipped
 from session import PATIENCE, QUIET, Editor, records, saved, sent
 
 
@@ -126,8 +127,9 @@ def no_room(place):
     disk = place / "disk"
     disk.mkdir()
     words = ["mount", "-t", "tmpfs", "-o", "size=4k", "none", disk]
-    if subprocess.run(words, capture_output=True).returncode != 0:
-        return
+    mounted = subprocess.run(words, capture_output=True, text=True)
+    if mounted.returncode != 0:
+        raise Skipped(f"no small file system can be mounted: {mounted.stderr.strip()}")
     try:
         editor = Editor(place, logs=disk / "logs")
         editor.tell("large", ["x" * 10_000])
