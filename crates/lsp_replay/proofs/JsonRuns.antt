@@ -58,56 +58,56 @@ plain_said run terms rests before (h ∷ hs) out (said, left, is, own, goes, lat
     (own.0 ++ rest.0, (own.0, rest.0, refl, own.1, goes, rest.1))
 
 -- a run in JSON ends as the run does
-plain_passed : (run : Run) (limits : Bounds) (log out : List ℕ) (outcome : Outcome)
-    → IsPassed (json_run run) limits log out outcome
-    → (said : List ℕ) × IsPassed run limits log said outcome
-plain_passed run limits log out outcome p = by_end p.is
-  where
-    abbrev terms : Terms
-    terms = log_terms limits p.format
+module _ (run : Run) (limits : Bounds) (log out : List ℕ) (outcome : Outcome)
+    (p : IsPassed (json_run run) limits log out outcome) where
+  abbrev terms : Terms
+  terms = log_terms limits p.format
 
-    passed : (said : List ℕ) → StopsIn run terms p.tail.rests p.heard said outcome
-        ⊎ EndsAfter run terms p.tail p.heard said outcome → IsPassed run limits log said outcome
-    passed said is = record {
-      format = p.format;
-      records = p.records;
-      heard = p.heard;
-      tail = p.tail;
-      told = p.told;
-      is = is;
-    }
+  passed : (said : List ℕ) → StopsIn run terms p.tail.rests p.heard said outcome
+      ⊎ EndsAfter run terms p.tail p.heard said outcome → IsPassed run limits log said outcome
+  passed said is = record {
+    format = p.format;
+    records = p.records;
+    heard = p.heard;
+    tail = p.tail;
+    told = p.told;
+    is = is;
+  }
 
-    by_end : StopsIn (json_run run) terms p.tail.rests p.heard out outcome
-        ⊎ EndsAfter (json_run run) terms p.tail p.heard out outcome
-        → (said : List ℕ) × IsPassed run limits log said outcome
-    by_end (inl s) =
-        let front = plain_said run terms p.tail.rests [] s.first s.front s.said in
-        let own = s.stop.says in (
-          front.0 ++ own.0,
-          passed (front.0 ++ own.0) (inl (record {
-            first = s.first;
-            here = s.here;
-            later = s.later;
-            are = s.are;
-            front = front.0;
-            last = own.0;
-            is = refl;
-            said = front.1;
-            stop = record { says = own.1; stops = s.stop.stops; ends = s.stop.ends };
-          })),
-        )
-    by_end (inr e) =
-        let front = plain_said run terms p.tail.rests [] p.heard e.front e.said in
-        let own = e.closes.0 in (
-          front.0 ++ own.0,
-          passed (front.0 ++ own.0) (inr (record {
-            front = front.0;
-            last = own.0;
-            is = refl;
-            said = front.1;
-            closes = (own.1, e.closes.1);
-          })),
-        )
+  plain_passed : (said : List ℕ) × IsPassed run limits log said outcome
+  plain_passed = by_end p.is
+    where
+      by_end : StopsIn (json_run run) terms p.tail.rests p.heard out outcome
+          ⊎ EndsAfter (json_run run) terms p.tail p.heard out outcome
+          → (said : List ℕ) × IsPassed run limits log said outcome
+      by_end (inl s) =
+          let front = plain_said run terms p.tail.rests [] s.first s.front s.said in
+          let own = s.stop.says in (
+            front.0 ++ own.0,
+            passed (front.0 ++ own.0) (inl (record {
+              first = s.first;
+              here = s.here;
+              later = s.later;
+              are = s.are;
+              front = front.0;
+              last = own.0;
+              is = refl;
+              said = front.1;
+              stop = record { says = own.1; stops = s.stop.stops; ends = s.stop.ends };
+            })),
+          )
+      by_end (inr e) =
+          let front = plain_said run terms p.tail.rests [] p.heard e.front e.said in
+          let own = e.closes.0 in (
+            front.0 ++ own.0,
+            passed (front.0 ++ own.0) (inr (record {
+              front = front.0;
+              last = own.0;
+              is = refl;
+              said = front.1;
+              closes = (own.1, e.closes.1);
+            })),
+          )
 
 -- **a run answers the verdict in each form**
 pub answers_in : (form : Form) (completeness : Completeness) (run : Run)
