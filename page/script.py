@@ -19,8 +19,8 @@ class Parser(argparse.ArgumentParser):
 
     def add_version(self, needed):
         """The option --version, with which these arguments are not needed."""
-        words = "print what the --version of this lspcheck says"
-        self.add_argument("--version", action=Version, nargs=0, const=needed, default=False, help=words)
+        how = {"nargs": 0, "const": needed, "default": False}
+        self.add_argument("--version", action=Version, help="print that of lspcheck", **how)
 
     def _print_message(self, message, file=None):
         try:

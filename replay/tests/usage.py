@@ -5,6 +5,7 @@ import os
 import re
 import shutil
 import subprocess
+import sys
 import threading
 
 import sessions
@@ -120,11 +121,22 @@ def says_that_the_log_changed(program, place):
 
 
 def says_its_version(program, place):
-    """That of lspcheck."""
-    version = subprocess.run([program, "--version"], capture_output=True, text=True).stdout.split()[1]
-    done = run(program, "--version", server=[], command=COMMAND)
-    assert (done.returncode, done.stdout) == (0, f"lspcheck-replay {version}\n"), done
-    assert f'"lspcheck {version}"' in (TOP / "docs/lspcheck-replay.1").read_text().split("\n")[0]
+    """That of the lspcheck that it would run, word for word."""
+    said = subprocess.run([program, "--version"], capture_output=True, text=True).stdout
+    other, missing = place / "other", "there is no lspcheck next to this command or on the PATH: use --program"
+    other.write_text("#!/bin/sh\necho 'lspcheck 9.9 (checked, not proved), commit 0123456789ab'\n")
+    other.chmod(0o755)
+    for words, status, out, errors in [
+        (["--program", program], 0, said, ""),
+        (["--program", other], 0, "lspcheck 9.9 (checked, not proved), commit 0123456789ab\n", ""),
+        (["--program", "true"], 2, "", f"lspcheck-replay: {shutil.which('true')}: this program is not lspcheck\n"),
+        ([], 2, "", f"lspcheck-replay: {missing}\n"),
+    ]:
+        how = {"capture_output": True, "text": True, "env": os.environ if words else {"PATH": str(place / "empty")}}
+        for given in (["--version", *words], [*words, "--version"]):
+            done = subprocess.run([sys.executable, COMMAND, *map(str, given)], **how)
+            assert (done.returncode, done.stdout, done.stderr) == (status, out, errors), done
+    assert f'"lspcheck {said.split()[1]}"' in (TOP / "docs/lspcheck-replay.1").read_text().split("\n")[0]
 
 
 def says_why_nothing_can_be_said(program, place):
