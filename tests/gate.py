@@ -26,16 +26,17 @@ COMPILES = "./run --program"
 # The words that stand for a program: the proved one, or whichever there is first.
 PROVED, ANY = "PROVED", "ANY"
 
-# What is run, in the order in which it is printed and in which it is started: what takes longest first.
+# What is run, in the order in which it is printed and in which it is started. What takes longest comes
+# first, after that which takes seconds, and the program that others need.
 GATE = [
     "tests/guarantees",
     "tests/links",
     "tests/words",
     "tests/mutants/run --stale",
     PROOFS,
+    COMPILES,
     "tests/compile-fail/run",
     "tests/api/run",
-    COMPILES,
     f"tests/of_checks {ANY}",
     f"page/run {PROVED}",
     f"replay/run {ANY}",
@@ -52,6 +53,9 @@ GATE = [
     f"package/completions/run {ANY} bash",
 ]
 QUICK = ["tests/guarantees", "tests/links", "tests/words", "tests/run --few", "tests/of_run"]
+
+# What ./run compiles, what it is made of, and what it kept.
+COPIED = ["crates.txt", "crates/*/src/**/*.rt", "run", "tests/*.py", "recorders/*.py", "page/*.py", "out/lspcheck*"]
 
 # The priority that the tests give up for the proofs.
 NICENESS = 10
@@ -106,12 +110,11 @@ class Gate:
         task.start(words, 0 if command == PROOFS or PROOFS not in self.tasks else NICENESS)
 
     def lay_out(self):
-        """Copies this folder, with the program that ./run has kept, if any."""
-        shutil.copytree(TOP, self.copy, ignore=shutil.ignore_patterns("out", ".git"))
-        if (TOP / "out/lspcheck.sum").is_file():
-            (self.copy / "out").mkdir()
-            for name in ("lspcheck", "lspcheck.sum"):
-                shutil.copy(TOP / "out" / name, self.copy / "out")
+        """Copies what ./run needs, and the program that it has kept, if any."""
+        for path in (path for pattern in COPIED for path in TOP.glob(pattern)):
+            target = self.copy / path.relative_to(TOP)
+            target.parent.mkdir(parents=True, exist_ok=True)
+            shutil.copy(path, target)
 
     def told(self):
         """Says what failed and what was not run, and counts all checks; the status."""

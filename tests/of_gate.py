@@ -5,7 +5,7 @@ import os
 import shutil
 import subprocess
 import tempfile
-import time
+from contextlib import suppress
 from pathlib import Path
 
 from processes import SIGNALS, is_running, until, with_signals
@@ -143,7 +143,7 @@ def on_gate():
 def on_side_by_side():
     """How many run at once, and with which priority."""
     processors = sorted(os.sched_getaffinity(0))
-    for count in {1, min(2, len(processors))}:
+    for count in sorted({1, min(2, len(processors))}):
         made = Made(["quick"], seconds=0.3, processors=processors[:count])
         yield f"./test quick: with {count} processors", made.says(0, len(QUICK) + 1, 0) and made.most() == count
     made = Made([], seconds=0.3, processors=processors[:count])
@@ -168,6 +168,7 @@ def on_quick():
 
 # A script that starts a process in a session of its own, as the compiler is, and waits.
 SLOW = """#!/bin/sh
+[ "$1" != version ] || exit
 setsid sh -c 'echo $$ >> {top}/numbers; exec sleep 600' &
 echo $$ >> {top}/numbers
 wait
@@ -175,23 +176,44 @@ wait
 
 
 def on_signals():
-    """A signal ends all that ./test started, whatever sessions it is in."""
-    for number in SIGNALS:
+    """A signal ends all that ./test started, whatever sessions it is in: one that reaches ./test alone,
+    or all of its group, as ^C does."""
+    for number, send in [(number, send) for number in SIGNALS for send in (os.kill, os.killpg)]:
         with tempfile.TemporaryDirectory() as name:
             top = Path(name)
             lay_out(top)
             for path in ["rt", "tests/compile-fail/run"]:
-                stub(top / path, SLOW.format(top=top).replace("setsid", "[ \"$1\" != version ] || exit\nsetsid", 1))
+                stub(top / path, SLOW.format(top=top))
             numbers = top / "numbers"
-            how = {"env": environment(top), "stdout": subprocess.DEVNULL, "stderr": subprocess.DEVNULL, "preexec_fn": with_signals}
-            running = subprocess.Popen([top / "test"], **how)
+            how = {"env": environment(top), "stdout": subprocess.DEVNULL, "stderr": subprocess.DEVNULL}
+            running = subprocess.Popen([top / "test"], preexec_fn=with_signals, start_new_session=True, **how)
             is_started = until(lambda: numbers.exists() and len(numbers.read_text().split()) == 4)
-            begun = time.monotonic()
-            running.send_signal(number)
+            send(running.pid, number)
             status = running.wait()
             is_left = any(map(is_running, numbers.read_text().split()))
-            yield f"./test: {number.name}", is_started and status == -number and not is_left
-            yield f"./test: {number.name}, at once", time.monotonic() - begun < 60
+            yield f"./test: {number.name}, {send.__name__}", is_started and status == -number and not is_left
+
+
+def is_named(folder):
+    """Whether this folder is in the words of a process."""
+    for path in Path("/proc").glob("[0-9]*/cmdline"):
+        with suppress(OSError):
+            if folder.encode() in path.read_bytes():
+                return True
+    return False
+
+
+def on_closed_output():
+    """If nobody reads what ./test says, it ends all that it started, too."""
+    with tempfile.TemporaryDirectory() as name:
+        top = Path(name)
+        lay_out(top)
+        stub(top / "rt", SLOW.format(top=top))
+        source, sink = os.pipe()
+        os.close(source)
+        status = subprocess.run([top / "test"], env=environment(top), stdout=sink, stderr=subprocess.DEVNULL).returncode
+        os.close(sink)
+        yield "./test: a closed pipe", status == 141 and not is_named(name)
 
 
 # The scripts that tests/run starts.
@@ -225,5 +247,5 @@ def on_run():
 
 def checks():
     """Each check as its name and whether what was broken was noticed."""
-    for part in [on_gate(), on_side_by_side(), on_quick(), on_signals(), on_run()]:
+    for part in [on_gate(), on_side_by_side(), on_quick(), on_signals(), on_closed_output(), on_run()]:
         yield from part
