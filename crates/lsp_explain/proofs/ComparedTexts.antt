@@ -1,4 +1,5 @@
--- The text that `explain --by-messages` or `--in-editor` writes is that of the first event that offends.
+-- The text that `explain --by-messages` or `--in-editor` writes is that of the first event that
+-- offends.
 use Rattle.std.specs.Prelude.{unwrap_or}
 use Rattle.std.specs.Option.{option_or}
 use Rattle.std.proofs.Common.{◌≡◌, ◌∙◌, ℕ, List, [], ◌∷◌, ◌++◌, Option, Some, None, ap, refl, sym}

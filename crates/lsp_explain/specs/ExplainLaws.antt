@@ -79,8 +79,8 @@ YesIsReport = (terms : Terms) (heard : List Heard) (rests : Rests) (fault : Opti
 
 -- ---- one of two texts
 
--- **What `explain --by-messages` and `--in-editor` write of a log is the answer on it**, and so they
--- end.
+-- **What `explain --by-messages` and `--in-editor` write of a log is the answer on it**, and so
+-- they end.
 abbrev pub ComparedTextIsOfSurvey : Type 0
 ComparedTextIsOfSurvey =
     (which : ComparedText) (limits : Bounds) (log out : List ℕ) (outcome : Outcome)

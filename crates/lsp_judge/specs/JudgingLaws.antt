@@ -1,5 +1,5 @@
--- Laws of `check` and `show`, with lines and with JSON: what they answer is the verdict, and each log
--- has one output.
+-- Laws of `check` and `show`, with lines and with JSON: what they answer is the verdict, and each
+-- log has one output.
 use Rattle.lsp_judge.specs.JudgingRun.{JudgingAsked, judging_run}
 use Rattle.lsp_replay.specs.JsonRun.{run_in}
 use Rattle.lsp_replay.specs.RunLaws.{AnswersVerdict, HasOneOutput}
