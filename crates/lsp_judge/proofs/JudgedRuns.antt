@@ -27,10 +27,10 @@ judging_answers form asked = answers_in form asked.completeness (judging_run ask
     )))
 
 -- one No, one end
-same_no : (no : Option Verdict) (a b : Outcome)
-    → (v : Verdict) × (no ≡ Some v) × IsJudged v a → (v : Verdict) × (no ≡ Some v) × IsJudged v b
-    → IsSameEnd a b
-same_no no a b (v, is, p) (w, at, q) =
+same_no : (found : Option Verdict) (a b : Outcome)
+    → (v : Verdict) × (found ≡ Some v) × IsJudged v a
+    → (v : Verdict) × (found ≡ Some v) × IsJudged v b → IsSameEnd a b
+same_no found a b (v, is, p) (w, at, q) =
     let one : w ≡ v = cc (sym is ∙ at) in
     judged_same v a b p (subst (λ (x : Verdict). IsJudged x b) one q)
 
