@@ -136,6 +136,7 @@ impl TextStore for Lined {
     ) -> Result<(), Fault>
         ensures found { OnOk result (found.new
             ≡ noted found.old (found_in encoding self.old.content span range_length)) }
+        ensures err_found { OnErr result (found.new ≡ found.old) }
         ensures ok { OnOk result (replaced encoding self.old.content span (chars text.now) limit
             ≡ Ok self.new.content) }
         ensures fault { IfErr result
