@@ -28,8 +28,9 @@ OVER_PROVED = [
 ]
 QUICK = ["tests/guarantees", "tests/links", "tests/words", "tests/of_run", "tests/run"]
 
-# Each script notes that it begins and ends. It gets no setting of the caller's Python, and rt no number
-# of jobs. What runs over a program gets its path, and ends if there is none.
+# Each script notes that it begins and ends; rt ends after the first of the others. It gets no setting
+# of the caller's Python, and rt no number of jobs. What runs over a program gets its path, and ends if
+# there is none.
 STUB = """#!/bin/sh
 top='{top}'
 case {name}$1 in
@@ -38,7 +39,9 @@ case {name}$1 in
     tests/needs*) exit {status};;
 esac
 echo "begins {name} $(env nice) $*" >> "$top/log"
-[ {name} != rt ] || sleep {seconds}; sleep {seconds}; [ {name} != rt ] || sleep {seconds}
+tries=0
+while [ {name} = rt ] && [ $tries -lt 999 ] && ! grep -q "^ends" "$top/log"; do tries=$((tries + 1)); sleep 0.1; done
+sleep {seconds}
 echo "ends {name}" >> "$top/log"
 if env | grep -q -e ^PYTHON -e ^RT_JOBS; then exit 1; fi
 case "$*" in *PROVED*|*ANY*) exit 1;; *[/]lspcheck*) [ -e "${{*#*--few }}" ] || [ -e "${{1}}" ] || exit 1;; esac
