@@ -13,7 +13,9 @@ CUT = ".."
 # The most characters of what is left out of a message in a line, and of each part of it. Those that
 # may name a program, or what it is given, come first.
 MOST_LEFT_OUT, MOST_OF_PART = 400, 100
-OF_PROGRAMS = re.compile("command|cmd|exec|program|script|shell|binary|tool|interpreter|arg|run", re.I)
+OF_PROGRAMS = re.compile(
+    "command|cmd|exec|program|script|shell|binary|tool|interpreter|arg|run", re.IGNORECASE
+)
 OBEYED = re.compile("[/;|&$`]")
 
 

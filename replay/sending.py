@@ -13,8 +13,8 @@ from shapes import Unfit, kept
 
 # The members of every message.
 HEAD = {"jsonrpc": shapes.text, "id": shapes.identifier, "method": shapes.text}
-# What is replaced, and no setting: the process of the editor, and the empty folder of a replay whose
-# log this is.
+# What is replaced, and no setting: the process of the editor, and the empty folder of an earlier
+# replay, which wrote this log.
 PROCESS = ("params", "processId")
 EMPTY = re.compile(r'"(file://)?/.*/lspcheck-replay-\w+/empty"')
 
@@ -25,7 +25,8 @@ def choose(recording, folders, is_whole):
     choice = Choice(folders)
     for message in recording.messages:
         content = folders.content_of(message.content)
-        message.sent = with_own_process(message, content) if is_whole else choice.of(message, content)
+        choose_of = with_own_process if is_whole else choice.of
+        message.sent = choose_of(message, content)
     left_out = [] if is_whole else list(choice.left_out(recording.messages))
     for message in recording.messages:
         if message.is_response and message.sent is not None:
@@ -81,13 +82,14 @@ class Choice:
         return None if message.is_request and found != value else found
 
     def initialize(self, given):
-        """The params of `initialize`, without settings and with no other folders than the user's."""
+        """The params of `initialize`, without settings, and without folders but the user's."""
         params = {}
         for name, shape in shapes.INITIALIZE.items():
             with suppress(Unfit):
                 params.update({name: kept(given[name], shape)} if name in given else {})
         offers = member(given, "capabilities") or {}
-        params["capabilities"] = {it: offers[it] for it in offers if it.casefold() != "experimental"}
+        offered = {it: offers[it] for it in offers if it.casefold() != "experimental"}
+        params["capabilities"] = offered
         if params.get("processId") is not None:
             params["processId"] = os.getpid()
         return self.folders.with_root(params)

@@ -1,8 +1,8 @@
 """What a message of a log may hold that is sent to any server: names of documents, texts, places,
 numbers and single characters.
 
-A log is a stranger's. Settings name programs, commands run them, answers consent to them; and what a
-member means that LSP 3.17 does not have, or has in other letters, only the server knows. So this
+A log is a stranger's. Settings name programs, commands run them, answers consent to them; and only
+the server knows what a member means that LSP 3.17 does not have, or has in other letters. So this
 names what is sent, and all else is left out.
 """
 

@@ -7,7 +7,7 @@ import sessions
 from logs import changed, notification, opened, request, result
 from processes import quoted
 from trials import HERE, check, named, run
-from usage import TEXT, put, refuses
+from usage import TEXT, put
 
 SERVER = [sys.executable, "-IS", HERE / "obedient.py"]
 URI = "file:///old/folder/a.py"
@@ -175,12 +175,12 @@ def lists_what_is_left_out(program, place):
     assert done.stdout.endswith(WITHOUT % 4) and f"\nreplayed {session.sent - 3} editor " in done.stdout, done.stdout
     # It is said where nothing can be said, too.
     done = run(program, place / "session.log", "ends=3")
-    refuses(done, 2, "at the end")
+    assert done.returncode == 2 and "ended with status 3" in done.stderr, done
     assert done.stdout.endswith(WITHOUT % 4), done
 
 
 def gets_no_folder_but_those_of_map(program, place):
-    """Also if one is named by a way out of a folder of the user's."""
+    """Also if the name of one leads out of a folder of the user's."""
     told = Told(place)
     told.folder("mapped")
     inside = told.place / "mapped" / "inside"
