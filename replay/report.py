@@ -16,7 +16,7 @@ MOST_LEFT_OUT, MOST_OF_PART = 400, 100
 OF_PROGRAMS = re.compile(
     "command|cmd|exec|program|script|shell|binary|tool|interpreter|arg|run", re.IGNORECASE
 )
-OBEYED = re.compile("[/;|&$`]")
+OF_PATHS = re.compile("[/;|&$`]")
 
 
 def line(*words):
@@ -54,7 +54,7 @@ def is_of_program(path, value):
     names = [it for it in path if isinstance(it, str)]
     if any(map(OF_PROGRAMS.search, names)):
         return 0
-    return 1 if any(map(OBEYED.search, (value, *names))) else 2
+    return 1 if any(map(OF_PATHS.search, (value, *names))) else 2
 
 
 def say_left_out(message, members):
