@@ -39,8 +39,8 @@ Exit status:
   2 bad log or stream  5 nothing to write (text, event, explain --by-messages, --in-editor)
                        64 bad arguments
 
-The repository describes the rules in docs/RULES.md, the lines of a report in docs/REPORT.md,
-and how to record a session in docs/LOG_FORMAT.md.";
+The repository describes the rules in docs/RULES.md, the lines of a report in docs/REPORT.md, how to
+record a session in docs/RECORDERS.md, and the format of a log in docs/LOG_FORMAT.md.";
 
 /// The greatest number of a message or an event that can be asked for: no log has more of them than
 /// bytes.
