@@ -10,7 +10,7 @@ import cuts
 import rules
 from files import MARK
 from listing import KINDS, Listing, explained
-from program import Failed
+from program import Failed, version_of
 from report_lines import Report
 from session import MOST_EXPLAINED, read_session
 from smallest import smallest_of, start_smallest
@@ -179,7 +179,7 @@ def index_of(log, said, listing, session):
 
 def write_page(file, runs, given):
     """Writes the page of a log into a file."""
-    version, log, report = runs.program.version(), runs.log, words_of_reports()
+    version, log, report = version_of(runs.program.path), runs.log, words_of_reports()
     # All at once: a program compiled with checks takes a second for each megabyte.
     listed = runs.start("show", "--all", "--long", "--json")
     all_explained = runs.start("explain", "--all", "--notes", "--json")

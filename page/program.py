@@ -63,31 +63,31 @@ def end(running):
             running.wait()
 
 
+def version_of(path):
+    """The first line of a program's `--version`. What is written to standard error meanwhile is
+    passed through: a script like ./run may have to compile the program first."""
+    running = None
+    try:
+        with held():
+            running = subprocess.Popen([path, "--version"], stdout=subprocess.PIPE)
+        line = running.communicate()[0].decode(errors="replace").partition("\n")[0]
+    except OSError as error:
+        raise Failed(f"{printable(path)}: {error.strerror}") from error
+    finally:
+        if running:
+            end(running)
+    if running.returncode != 0:
+        raise Failed(f"{printable(path)} --version: it ended with status {running.returncode}")
+    if not line.startswith("lspcheck "):
+        raise Failed(f"{printable(path)}: this program is not lspcheck")
+    return line
+
+
 class Program:
     """lspcheck, with the log that it reads on standard input: its name may be any bytes."""
 
     def __init__(self, path, log):
         self.path, self.log = path, os.path.abspath(log)
-
-    def version(self):
-        """The first line of `--version`. What is written to standard error meanwhile is passed
-        through: a script like ./run may have to compile the program first."""
-        running = None
-        try:
-            with held():
-                running = subprocess.Popen([self.path, "--version"], stdout=subprocess.PIPE)
-            line = running.communicate()[0].decode(errors="replace").partition("\n")[0]
-        except OSError as error:
-            raise Failed(f"{printable(self.path)}: {error.strerror}") from error
-        finally:
-            if running:
-                end(running)
-        status = running.returncode
-        if status != 0:
-            raise Failed(f"{printable(self.path)} --version: it ended with status {status}")
-        if not line.startswith("lspcheck "):
-            raise Failed(f"{printable(self.path)}: this program is not lspcheck")
-        return line
 
     def run(self, words):
         try:

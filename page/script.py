@@ -7,10 +7,7 @@ import sys
 import tempfile
 
 from outputs import say
-from program import Failed, printable
-
-# The version of lspcheck that these scripts belong to.
-VERSION = "1.0.0"
+from program import Failed, find_program, printable, version_of
 
 
 class Parser(argparse.ArgumentParser):
@@ -20,12 +17,31 @@ class Parser(argparse.ArgumentParser):
         say(f"{self.prog}: {printable(message)} (try --help)")
         sys.exit(64)
 
+    def add_version(self, needed):
+        """The option --version, with which these arguments are not needed."""
+        how = {"nargs": 0, "const": needed, "default": False}
+        self.add_argument("--version", action=Version, help="print that of lspcheck", **how)
+
     def _print_message(self, message, file=None):
         try:
             put(message.encode())
         except Failed as failed:
             say(f"{self.prog}: {failed}")
             sys.exit(failed.status)
+
+
+class Version(argparse.Action):
+    """--version, before or after --program."""
+
+    def __call__(self, parser, given, *_):
+        given.version = True
+        for it in self.const:
+            it.required = False
+
+
+def print_version(given):
+    """The version of the lspcheck that a script would run: the script has none of its own."""
+    put(f"{printable(version_of(find_program(given.program, sys.argv[0])))}\n".encode())
 
 
 def number(word):

@@ -84,8 +84,21 @@ ignores line ends, and another is there only to say so once."
     (list (lspcheck--start-check (lspcheck--hear file) "--ignore-line-ends" "--notes")
           (lspcheck--start-check (lspcheck--hear-line-ends file)))))
 
+(defun lspcheck--why-refused ()
+  "Why no log is written into the folder, or nil.
+Whoever else could replace files there could have Emacs write to any file of its user.  In a sticky
+folder, such as /tmp, nobody else can."
+  (let* ((folder (directory-file-name lspcheck-folder))
+         (owner (file-attribute-user-id (file-attributes folder))))
+    (cond ((or (null owner) (eq system-type 'windows-nt)) nil)
+          ((file-symlink-p folder) "it is a symbolic link")
+          ((not (memql owner (list 0 (user-uid)))) "it belongs to another user")
+          ((= (logand (file-modes folder) #o1002) #o2) "others may write to it"))))
+
 (defun lspcheck--create (name)
   "Create a log, NAME.log, and return its name; if that exists, there is a number in its name."
+  (when-let ((why (lspcheck--why-refused)))
+    (error "%s: %s" lspcheck-folder why))
   (let ((file nil) (number 0))
     (while (not file)
       (setq number (1+ number)
@@ -141,12 +154,13 @@ that of the server.")
   "Write how PROCESS ended, if it did, to a file next to its log."
   (when-let ((how (cdr (assq (process-status process) '((exit . "status") (signal . "signal"))))))
     (unless (lspcheck--is-deleted process)
-      (with-file-modes #o600
-        (write-region (format "%s %d\ntime %s\n" how (process-exit-status process)
-                              (format-time-string "%Y-%m-%dT%H:%M:%S%z"))
-                      nil (concat (file-name-sans-extension (process-get process 'lspcheck-log))
-                                  ".exit")
-                      nil 'quiet)))
+      (with-demoted-errors "lspcheck: not recorded: %S"
+        (with-file-modes #o600
+          (write-region (format "%s %d\ntime %s\n" how (process-exit-status process)
+                                (format-time-string "%Y-%m-%dT%H:%M:%S%z"))
+                        nil (concat (file-name-sans-extension (process-get process 'lspcheck-log))
+                                    ".exit")
+                        nil 'quiet nil 'excl))))
     (dolist (check (process-get process 'lspcheck-checks))
       (when (process-live-p check)
         (process-send-eof check)))))

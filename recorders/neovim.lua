@@ -23,6 +23,25 @@ for _ = 1, 9 do
   end
 end
 
+-- Why no log is written there: whoever else could replace files there could have Neovim write to any
+-- file of its user. In a sticky folder, such as /tmp, nobody else can.
+local sticky, by_others = tonumber("1000", 8), tonumber("2", 8)
+local function why_refused()
+  if not uv.getuid then
+    return nil
+  end
+  local found, problem = uv.fs_lstat(#folder > 1 and folder:gsub("/+$", "") or folder)
+  if not found then
+    return problem
+  elseif found.type == "link" then
+    return folder .. ": it is a symbolic link"
+  elseif found.uid ~= 0 and found.uid ~= uv.getuid() then
+    return folder .. ": it belongs to another user"
+  elseif bit.band(found.mode, sticky + by_others) == by_others then
+    return folder .. ": others may write to it"
+  end
+end
+
 local pipe = getmetatable(uv.new_pipe(false)).__index
 local write, read_start = pipe.write, pipe.read_start
 local start, spawn = vim.lsp.rpc.start, uv.spawn
@@ -131,6 +150,10 @@ end
 local function create(name)
   local path, file, problem, code
   local number = 1
+  local why = why_refused()
+  if why then
+    return nil, nil, why
+  end
   repeat
     path = folder .. "/" .. name .. (number > 1 and "-" .. number or "") .. ".log"
     file, problem, code = uv.fs_open(path, "wx", owner_file)
@@ -177,7 +200,8 @@ end
 
 -- Writes how the server ended to a file next to its log.
 local function note_exit(log, status, signal)
-  local file = not log.is_deleted and uv.fs_open(log.path:gsub("%.log$", ".exit"), "w", owner_file)
+  local path = log.path:gsub("%.log$", ".exit")
+  local file = not log.is_deleted and uv.fs_open(path, "wx", owner_file)
   if file then
     local ended = signal ~= 0 and ("signal %d"):format(signal) or ("status %d"):format(status)
     uv.fs_write(file, ("%s\ntime %s\n"):format(ended, os.date("%Y-%m-%dT%H:%M:%S%z")), -1)

@@ -46,6 +46,13 @@ def say(line):
         drop(2)
 
 
+def called(script):
+    """The name of a script in its help: that of a package's command, such as lspcheck-shrink, if
+    the user called that, and otherwise the given one, such as recorders/shrink."""
+    command = os.path.basename(sys.argv[0])
+    return command if command == f"lspcheck-{os.path.basename(script)}" else script
+
+
 def guard(script):
     """Replaces sys.stdout, for the script of this name."""
     how = {name: getattr(sys.stdout, name) for name in ("encoding", "errors", "line_buffering")}

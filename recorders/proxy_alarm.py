@@ -9,7 +9,7 @@ import subprocess
 import tempfile
 import threading
 
-from proxy_log import PATIENCE, Feed, is_readable, private, say, write_all
+from proxy_log import PATIENCE, Feed, create, is_readable, say, write_all
 from report_lines import NoObject, Report, object_of
 
 # The statuses of lspcheck after a yes, a no and a bad log, and the one of words that are unknown.
@@ -96,7 +96,7 @@ class Alarm:
     in these alone."""
 
     def __init__(self, path):
-        self.path, self.lock, self.report = path, threading.Lock(), Report()
+        self.path, self.file, self.lock, self.report = path, None, threading.Lock(), Report()
         self.has_told_line_ends = self.has_stopped = False
         options = ["--ignore-line-ends", "--notes"]
         self.checks = [Check(options, self.tell, self.stop),
@@ -111,8 +111,18 @@ class Alarm:
         text = "".join(f"{line}\n" for line in [head + remark, *lines]).encode()
         with contextlib.suppress(OSError), self.lock:
             write_all(2, text)
-        with contextlib.suppress(OSError), open(self.path, "ab", opener=private) as file:
-            file.write(text)
+        with contextlib.suppress(OSError), self.lock:
+            write_all(self.file_of_explanations(), text)
+
+    def file_of_explanations(self):
+        """The file next to the log, which is created with the first explanation."""
+        if self.file is None:
+            try:
+                self.file = create(self.path)
+            except OSError as error:
+                say(f"{self.path}: {error.strerror}; explanations are written here alone")
+                self.file = os.open(os.devnull, os.O_WRONLY)
+        return self.file
 
     def tell_line_ends(self, objects):
         if not self.has_told_line_ends and any(it["is"] == "ends" for it in objects):

@@ -102,28 +102,28 @@ class Feed(threading.Thread):
         os.close(self.pipe)
 
 
-def private(path, flags):
-    """Opens a file that only its owner can read."""
-    return os.open(path, flags | os.O_NOFOLLOW, 0o600)
+def create(path):
+    """Creates a file that did not exist, which only its owner can read."""
+    return os.open(path, os.O_WRONLY | os.O_CREAT | os.O_EXCL, 0o600)
 
 
-def server_name(words):
-    """The name of the server that a command starts, as the module for test suites gives it."""
+def module():
+    """The module for test suites, which names servers and refuses folders."""
     sys.path.append(os.path.join(os.path.dirname(os.path.realpath(__file__)), "python"))
     # Only now, since the editor waited for what was imported first.
     import lspcheck_recorder
 
-    return lspcheck_recorder.server_name(words)
+    return lspcheck_recorder
 
 
 def create_log(folder, words, number):
     """Creates a log under the first name that is free: its path, and the file."""
-    name = re.sub(r"[^\w.+-]", "_", server_name(words))[:100]
+    name = re.sub(r"[^\w.+-]", "_", module().server_name(words))[:100]
     stem = os.path.join(folder, f"{name}-{time.strftime('%Y%m%dT%H%M%S')}-{number}")
     for count in itertools.count(1):
         path = f"{stem}.log" if count == 1 else f"{stem}-{count}.log"
         try:
-            return path, private(path, os.O_WRONLY | os.O_CREAT | os.O_EXCL)
+            return path, create(path)
         except FileExistsError:
             continue
 
@@ -140,10 +140,14 @@ class Log(threading.Thread):
         self.number, self.size, self.early, self.is_ended = 0, 0, session_log.FIRST_LINE, False
 
     def run(self):
+        folder = self.options.folder
         try:
-            os.makedirs(self.options.folder, 0o700, exist_ok=True)
+            os.makedirs(folder, 0o700, exist_ok=True)
+            why = module().why_refused(folder)
         except OSError as error:
-            self.stop(f"{self.options.folder}: {error.strerror}; nothing is recorded")
+            why = error.strerror
+        if why:
+            self.stop(f"{folder}: {why}; nothing is recorded")
         while (record := self.waiting.get()) is not None:
             self.take(record)
         if self.waiting.is_full:
@@ -224,15 +228,16 @@ class Log(threading.Thread):
             return
         ended = f"status {status}" if status >= 0 else f"signal {-status}"
         when = time.strftime("%Y-%m-%dT%H:%M:%S%z")
-        path = self.sibling("exit")
+        path, file = self.sibling("exit"), None
         try:
-            with open(path, "w", opener=private) as file:
-                file.write(f"{ended}\ntime {when}\n")
+            file = create(path)
+            write_all(file, f"{ended}\ntime {when}\n".encode())
         except OSError as error:
             if not self.is_ended:
                 say(f"{path}: {error.strerror}")
             with contextlib.suppress(OSError):
-                os.unlink(path)
+                if file is not None:
+                    os.unlink(path)
 
 
 def leave_session():

@@ -1,8 +1,6 @@
 """Runs of a server: the messages of the log again, or the texts at one moment in a fresh one."""
 
 import json
-import os
-import re
 from concurrent.futures import ThreadPoolExecutor
 from contextlib import contextmanager
 
@@ -31,21 +29,10 @@ class Setting:
         replies = Replies(self.recording.replies)
         return Server(self.command, replies, self.recording.free_id, tape)
 
-    def content_of(self, message):
-        """The content of a message as it is sent: that of the log, with folders mapped. In
-        `initialize`, this process stands for the editor's: some servers end when that has ended."""
-        content = self.folders.content_of(message.content)
-        if message.method != "initialize":
-            return content
-        named = member(messages.value_of(content), "params", "processId")
-        if not isinstance(named, int):
-            return content
-        return re.sub(rb'("processId"\s*:\s*)%d\b' % named, rb"\g<1>%d" % os.getpid(), content)
-
     def goodbye(self):
         """The messages of the log that end a session."""
         found = [it for it in self.recording.messages if it.method in AT_THE_END]
-        return {it.method: it.content for it in found}
+        return {it.method: it.sent for it in found}
 
     def no_answer(self):
         return f"gave no answer in {self.wait:g} seconds (see --wait) to"
@@ -64,7 +51,9 @@ def place(message):
 def named(message):
     """A message, as `lspcheck explain` names it."""
     kind = f"request {message.id}" if message.is_request else "notification"
-    return f"{place(message)} {kind} {json.dumps(message.method)}"
+    if message.is_response:
+        kind = f"{'error' if message.is_error else 'result'} {message.id} to"
+    return f"{place(message)} {kind} {json.dumps(message.method or message.asked)}"
 
 
 class Run:
@@ -127,14 +116,15 @@ class Run:
             self.send(step)
 
     def send(self, message):
-        """Sends a message of the log."""
-        content = self.setting.content_of(message)
+        """Sends what is sent of a message of the log."""
+        if message.sent is None:
+            return
         self.when = f"after {place(message)}"
         if message.is_request:
-            self.server.ask(message.id, content, message.method == "initialize")
+            self.server.ask(message.id, message.sent, message.method == "initialize")
             self.sent[message.number] = message
         else:
-            self.server.send(content)
+            self.server.send(message.sent)
 
     def wait_for(self, request):
         """Waits for the answer to a request of the log, if it was sent in this run."""

@@ -1,25 +1,54 @@
 """Replaces folders of the log in the paths and URIs of its messages."""
 
 import json
+from pathlib import Path
 from urllib.parse import quote, unquote
 
-from messages import encoded
+from messages import encoded, member
 
 # Members that hold a document's text, which stays as it is.
 TEXTS = ("text", "newText")
 
 
-class Folders:
-    """The folders to be replaced, each with the one in its place."""
+def path_in(uri):
+    """The path in the URI of a file, or None."""
+    scheme, _, rest = (uri or "").partition("://")
+    return unquote(rest) if scheme.lower() == "file" else None
 
-    def __init__(self, pairs):
-        self.pairs = pairs
-        self.has_changed = False
+
+class Folders:
+    """The folders to be replaced, each with the one in its place, and an empty one."""
+
+    def __init__(self, pairs, empty):
+        self.pairs, self.empty = pairs, empty
+        self.has_found = False
+
+    def holds(self, path):
+        """Whether a path is in a folder that replaces another: the user has named it."""
+        parts = (path or "").rstrip("/").split("/")
+        news = [new.rstrip("/").split("/") for _, new in self.pairs]
+        return bool(path) and ".." not in parts and any(parts[: len(it)] == it for it in news)
+
+    def with_root(self, params):
+        """The params of `initialize` with the folders that the user has named, or an empty one."""
+        given = params.get("workspaceFolders") or []
+        near = [it for it in given if self.holds(path_in(member(it, "uri")))]
+        uri, path = path_in(params.get("rootUri")), params.get("rootPath")
+        named = (uri, path, *(path_in(it["uri"]) for it in near))
+        root = next(filter(self.holds, named), self.empty)
+        if not self.holds(uri):
+            params["rootUri"] = Path(root).as_uri()
+        if path is not None and not self.holds(path):
+            params["rootPath"] = root
+        if given:
+            params["workspaceFolders"] = near or [{"uri": params["rootUri"], "name": "root"}]
+        return params
 
     def path_of(self, path):
         """A path, as it is below the new folder."""
         for old, new in self.pairs:
             if path == old or path.startswith(old + "/"):
+                self.has_found = True
                 return new + path[len(old) :]
         return path
 
@@ -34,14 +63,13 @@ class Folders:
         for old, new in self.pairs:
             size = old.count("/") + 1
             if "/".join(plain[:size]) == old:
+                self.has_found = True
                 return f"{scheme}{slashes}{host}" + "/".join([quote(new), *parts[size:]])
         return uri
 
     def string_of(self, text):
         """A string of a message, which may be a path or a URI."""
-        changed = self.uri_of(text) if "://" in text[:8] else self.path_of(text)
-        self.has_changed = self.has_changed or changed != text
-        return changed
+        return self.uri_of(text) if "://" in text[:8] else self.path_of(text)
 
     def value_of(self, value):
         if isinstance(value, str):

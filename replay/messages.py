@@ -24,6 +24,10 @@ class Message:
     answer: str = None
     # For a message of the editor: the requests that are answered between the one before and this.
     answered_before: tuple = ()
+    # For a response: the method that it answers.
+    asked: str = None
+    # What is sent of a message of the editor, or None if it is left out.
+    sent: bytes = None
 
     @property
     def is_request(self):
@@ -36,7 +40,7 @@ class Message:
     def is_text_of(self, uri):
         """Whether the message sets the text of a document."""
         methods = ("textDocument/didOpen", "textDocument/didChange")
-        return self.uri == uri and self.method in methods
+        return self.uri == uri and self.method in methods and self.sent is not None
 
 
 def value_of(content):

@@ -44,7 +44,7 @@ class Recording:
     encoding: str = None
     # The first id that no request of the editor has.
     free_id: int = 1
-    # For each method, the editor's answers to the server, in order: whether result or error, value.
+    # For each method, the editor's answers that are sent, in order: whether result or error, value.
     replies: dict = field(default_factory=lambda: defaultdict(list))
 
     def add(self, step):
@@ -67,6 +67,8 @@ class Recording:
         for message in self.messages:
             if message.number > number:
                 break
+            if message.sent is None:
+                continue
             if message.method == "textDocument/didOpen":
                 found.pop(message.uri, None)
                 found[message.uri] = Document(message.uri, message.language, message.version)
@@ -151,8 +153,7 @@ class Reader:
             return
         asked.answer = "error" if response.is_error else "result"
         if kind == EDITOR:
-            value = member(value_of(response.content), asked.answer)
-            self.recording.replies[asked.method].append((asked.answer, value))
+            response.asked = asked.method
             return
         self.answered.append(asked)
         if asked.method == "initialize":

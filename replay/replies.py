@@ -3,21 +3,11 @@
 from collections import deque
 
 from messages import member
+from shapes import DONE
 
 METHOD_NOT_FOUND = {"code": -32601, "message": "Method not found"}
 # What an editor may answer with null.
-NULLS = {
-    "client/registerCapability",
-    "client/unregisterCapability",
-    "window/showMessageRequest",
-    "window/workDoneProgress/create",
-    "workspace/codeLens/refresh",
-    "workspace/diagnostic/refresh",
-    "workspace/inlayHint/refresh",
-    "workspace/inlineValue/refresh",
-    "workspace/semanticTokens/refresh",
-    "workspace/workspaceFolders",
-}
+NULLS = {*DONE.split(), "window/showMessageRequest", "workspace/workspaceFolders"}
 
 
 def without_log(method, params):

@@ -1,6 +1,7 @@
 """The lines that lspcheck-replay writes."""
 
 import json
+import re
 
 from drive import named, place
 from questions import DIFFERS, NOTHING, bare
@@ -9,6 +10,13 @@ from script import put
 # The most characters of an answer in a line, and how many of them precede what is different.
 MOST_SHOWN, BEFORE = 200, 40
 CUT = ".."
+# The most characters of what is left out of a message in a line, and of each part of it. Those that
+# may name a program, or what it is given, come first.
+MOST_LEFT_OUT, MOST_OF_PART = 400, 100
+OF_PROGRAMS = re.compile(
+    "command|cmd|exec|program|script|shell|binary|tool|interpreter|arg|run", re.IGNORECASE
+)
+OF_PATHS = re.compile("[/;|&$`]")
 
 
 def line(*words):
@@ -24,11 +32,11 @@ def shown(answer):
     return f"error {json.dumps(code)} {json.dumps(said, ensure_ascii=False)}"
 
 
-def cut(text, start):
+def cut(text, start, most=MOST_SHOWN):
     """A text from this character on, as much of it as a line holds."""
     before = CUT if start else ""
-    after = CUT if len(text) > start + MOST_SHOWN else ""
-    return before + text[start : start + MOST_SHOWN] + after
+    after = CUT if len(text) > start + most else ""
+    return before + text[start : start + most] + after
 
 
 def both(replayed, fresh):
@@ -41,9 +49,31 @@ def both(replayed, fresh):
     return cut(replayed, start), cut(fresh, start)
 
 
+def is_of_program(path, value):
+    """0 for a member whose name says so, 1 for one whose value looks like it, and 2 for others."""
+    names = [it for it in path if isinstance(it, str)]
+    if any(map(OF_PROGRAMS.search, names)):
+        return 0
+    return 1 if any(map(OF_PATHS.search, (value, *names))) else 2
+
+
+def say_left_out(message, members):
+    """What a server is not sent of a message. It is a stranger's: no terminal obeys any of it."""
+    members = sorted(members, key=lambda it: is_of_program(*it))
+    parts = (cut(f"{json.dumps('.'.join(map(str, path)))[1:-1]}={value}", 0, MOST_OF_PART)
+             for path, value in members)
+    words = (cut(named(message), 0), cut(" ".join(parts), 0, MOST_LEFT_OUT))
+    line("left-out", *(it.replace("\x7f", "\\u007f") for it in words if it))
+
+
+def say_without(count):
+    line("without", count, "parts of the log, which may change the result: see --with-settings")
+
+
 def say_replayed(recording, received):
     bound = [f"before {recording.bound}"] if recording.bound else []
-    line("replayed", len(recording.messages), "editor", received, "server", *bound)
+    sent = sum(it.sent is not None for it in recording.messages)
+    line("replayed", sent, "editor", received, "server", *bound)
 
 
 def say_answers(recording, answered, silent):

@@ -11,6 +11,7 @@ from questions import NOTHING, PAUSES, compared
 from recording import read
 from script import quoted, write
 from search import Search, SmallCase, asked_after, differing, verdict_of
+from sending import choose
 from servers import Tape
 
 # Files that are not finished yet.
@@ -32,13 +33,20 @@ def run(program, log, command, given, folders):
         report.line(line)
     if not any(it.method == "initialize" for it in recording.messages):
         raise Failed(f"{log.shown}: there is nothing to replay", 2)
+    left_out = choose(recording, folders, given.with_settings)
+    for message, members in left_out:
+        report.say_left_out(message, members)
+    if folders.pairs and not folders.has_found:
+        raise Failed(f"--map: {folders.pairs[0][0]} is in no message of the log", 2)
     setting = Setting(program, recording, command, given.wait, folders)
     asked = Asked(setting, given.every)
-    with written(given.write) as tape:
-        asked.replay(tape)
-    if folders.pairs and not folders.has_changed:
-        raise Failed(f"--map: {folders.pairs[0][0]} is in no message of the log", 2)
-    return conclude(setting, asked, given.small)
+    try:
+        with written(given.write) as tape:
+            asked.replay(tape)
+        return conclude(setting, asked, given.small)
+    finally:
+        if left_out:
+            report.say_without(len(left_out))
 
 
 @contextlib.contextmanager

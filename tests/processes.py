@@ -13,6 +13,10 @@ SECONDS = 600
 SIGNALS = (signal.SIGINT, signal.SIGTERM, signal.SIGHUP)
 
 
+class Skipped(Exception):
+    """Why a test cannot be made here."""
+
+
 def need_rt(script):
     """Ends a script, with a line, if there is no rt to compile or prove with."""
     if shutil.which("rt") is None:

@@ -4,7 +4,8 @@ It says so itself, so a copy says the same wherever it is."""
 import re
 import subprocess
 
-# What follows the version of a program that was compiled with checks.
+# What follows the version of a program that was compiled with checks; then, after a comma, may come
+# the commit that it was compiled at.
 CHECKED = "(checked, not proved)"
 
 
@@ -36,4 +37,4 @@ def leaves_out(program, what):
 def is_checked(program):
     """Whether this is lspcheck, compiled with checks."""
     found = version_of(program)
-    return found is not None and found[1] == CHECKED
+    return found is not None and (found[1] == CHECKED or found[1].startswith(f"{CHECKED}, "))

@@ -2,14 +2,14 @@
 # as /usr/share/bash-completion/completions/lspcheck-replay.
 
 _lspcheck_replay() {
-    local options="--every --map --program --small --wait --write --version --help -h"
+    local options="--every --map --program --small --wait --with-settings --write --version --help -h"
     local word=${COMP_WORDS[COMP_CWORD]} previous=${COMP_WORDS[COMP_CWORD - 1]}
     local given=" " option offered="" at others=0
     for ((at = 1; at < COMP_CWORD; at++)); do
         case ${COMP_WORDS[at]} in
             # bash splits `OLD=NEW` into three words.
             =) ((at++)) ;;
-            --help | --version) given+="${COMP_WORDS[at]} " ;;
+            --help | --version | --with-settings) given+="${COMP_WORDS[at]} " ;;
             --*) given+="${COMP_WORDS[at]} " && ((at++)) ;;
             *) ((others++)) ;;
         esac

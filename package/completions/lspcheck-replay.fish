@@ -13,4 +13,5 @@ complete -c lspcheck-replay -n '__lspcheck_replay_option program' -l program -r 
 complete -c lspcheck-replay -n '__lspcheck_replay_option small' -l small -r -d 'Write the shortest session that shows the difference'
 complete -c lspcheck-replay -n 'not contains -- --version (commandline -opc)' -l version -d 'Print the version'
 complete -c lspcheck-replay -n '__lspcheck_replay_option wait' -l wait -x -d 'How long to wait for an answer'
+complete -c lspcheck-replay -n 'not contains -- --with-settings (commandline -opc)' -l with-settings -d 'Send all of the log, also settings'
 complete -c lspcheck-replay -n '__lspcheck_replay_option write' -l write -r -d 'Write the replayed session as a log'

@@ -135,11 +135,21 @@ def reads_standard_input(program, place):
 
 
 def says_its_version(program, place):
-    """That of lspcheck."""
-    version = subprocess.run([program, "--version"], capture_output=True, text=True).stdout.split()[1]
-    done = run("--version")
-    assert (done.returncode, done.stdout) == (0, f"lspcheck-page {version}\n"), done
-    assert f'"lspcheck {version}"' in (TOP / "docs/lspcheck-page.1").read_text().split("\n")[0]
+    """That of the lspcheck that it would run, word for word."""
+    said = subprocess.run([program, "--version"], capture_output=True, text=True).stdout
+    other = script(place / "other", "echo compiling >&2\necho 'lspcheck 9.9 (checked, not proved), commit 0123456789ab'")
+    for words, status, out, errors in [
+        (["--program", program], 0, said, ""),
+        (["--program", other], 0, "lspcheck 9.9 (checked, not proved), commit 0123456789ab\n", "compiling\n"),
+        ([EXAMPLE, "--program", script(place / "hides", "printf 'lspcheck 1\\033[8m\\n'")], 0, "lspcheck 1?[8m\n", ""),
+        (["--program", "true"], 1, "", f"lspcheck-page: {shutil.which('true')}: this program is not lspcheck\n"),
+        ([], 1, "", "lspcheck-page: there is no lspcheck next to this command or on the PATH: use --program\n"),
+    ]:
+        path = {} if words else {"env": {"PATH": str(place / "empty")}}
+        for given in (["--version", *words], [*words, "--version"]):
+            done = run(*given, **path)
+            assert (done.returncode, done.stdout, done.stderr) == (status, out, errors), done
+    assert f'"lspcheck {said.split()[1]}"' in (TOP / "docs/lspcheck-page.1").read_text().split("\n")[0]
 
 
 def ends_quietly_where_its_reader_is_gone(program, place):

@@ -156,15 +156,35 @@ function! s:StartAlarm(log) abort
   \]
 endfunction
 
-" Creates a file that did not exist, with a number in its name if there is one of that name.
-" The shell does it, since Vim itself cannot refuse to write to an existing file.
+" Whether no log is written into the folder: whoever else could replace files there could have Vim
+" write to any file of its user. In a sticky folder, such as /tmp, nobody else can.
+function! s:IsRefused() abort
+  let l:bad = '-type l -o ! -user 0 ! -user "$(id -u)" -o -perm -0002 ! -perm -1000'
+  let l:find = 'find "$1" -prune \( ' . l:bad . ' \) 2> /dev/null'
+  let l:folder = substitute(s:folder, '\(.\)/\+$', '\1', '')
+
+  return !empty(system("sh -c '" . l:find . "' sh " . shellescape(l:folder)))
+endfunction
+
+" Creates a file that did not exist. The shell does it, since Vim itself cannot refuse to write to an
+" existing file.
+function! s:New(file) abort
+  return system("sh -c 'umask 077; set -C; : > \"$1\"' sh " . shellescape(a:file))
+endfunction
+
+" Creates a log, with a number in its name if there is one of that name.
 function! s:Create(name) abort
   let l:number = 1
   let l:log = a:name . '.log'
 
+  if s:IsRefused()
+    call s:Say('lspcheck: not recorded: a link, or others may write there: ' . s:folder)
+
+    return ''
+  endif
+
   while 1
-    let l:create = "sh -c 'umask 077; set -C; : > \"$1\"' sh " . shellescape(l:log)
-    let l:problem = system(l:create)
+    let l:problem = s:New(l:log)
 
     if v:shell_error && getftype(l:log) is# ''
       call s:Say('lspcheck: not recorded: ' . trim(l:problem))
@@ -198,8 +218,11 @@ function! s:NoteExit(log, job_id, status) abort
 
   let l:file = fnamemodify(a:log, ':r') . '.exit'
   let l:lines = [l:ended, 'time ' . strftime('%Y-%m-%dT%H:%M:%S%z')]
-  silent! call writefile(l:lines, l:file)
-  silent! call setfperm(l:file, 'rw-------')
+  call s:New(l:file)
+
+  if !v:shell_error
+    silent! call writefile(l:lines, l:file)
+  endif
 
   for l:check in get(s:checks, a:log, [])
     if job_status(l:check) is# 'run'

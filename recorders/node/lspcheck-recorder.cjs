@@ -43,10 +43,10 @@ function create(path) {
 
 /** Appends to a file, unless it was deleted: a new one would lack the beginning of the log. */
 function write(path, bytes) {
-  const { O_APPEND, O_WRONLY } = fs.constants;
+  const { O_APPEND, O_NOFOLLOW, O_WRONLY } = fs.constants;
   let file;
   try {
-    file = fs.openSync(path, O_APPEND | O_WRONLY);
+    file = fs.openSync(path, O_APPEND | O_NOFOLLOW | O_WRONLY);
   } catch (error) {
     if (error.code === "ENOENT") {
       return;
@@ -89,6 +89,24 @@ function serverName(words) {
   return basename(name || words[0]);
 }
 
+/**
+ * Why no log is written into a folder, if so: whoever else could replace files there could have
+ * this process write to any file of its user. In a sticky folder, such as /tmp, nobody else can.
+ */
+function whyRefused(folder) {
+  if (!process.geteuid) {
+    return undefined;
+  }
+  const found = fs.lstatSync(String(folder).replace(/(?!^)\/+$/, ""));
+  if (found.isSymbolicLink()) {
+    return "it is a symbolic link";
+  }
+  if (![process.geteuid(), 0].includes(found.uid)) {
+    return "it belongs to another user";
+  }
+  return (found.mode & 0o1002) === 0o002 ? "others may write to it" : undefined;
+}
+
 /** The name of a child's log in a folder: its server, the local time, and its number. */
 function ownName(child) {
   const time = localTime().slice(0, 19).replace(/[-:]/g, "");
@@ -127,7 +145,9 @@ class Log {
   ended(status, signal) {
     const how = signal === null ? `status ${status}` : `signal ${os.constants.signals[signal]}`;
     const path = this.path.replace(/(\.log)?$/, ".exit");
-    fs.writeFileSync(path, `${how}\ntime ${localTime()}\n`, { mode: 0o600 });
+    // One that was left of an earlier log of this name.
+    fs.rmSync(path, { force: true });
+    fs.writeFileSync(path, `${how}\ntime ${localTime()}\n`, { mode: 0o600, flag: "wx" });
   }
 }
 
@@ -135,7 +155,14 @@ class Log {
 function pathOf(child, path) {
   const isFile = String(path).endsWith(".log") && !isFolder(path);
   fs.mkdirSync(isFile ? dirname(path) : path, { recursive: true, mode: 0o700 });
-  return isFile ? path : join(path, ownName(child));
+  if (isFile) {
+    return path;
+  }
+  const why = whyRefused(path);
+  if (why) {
+    throw new Error(`${path}: no log is written into this folder: ${why}`);
+  }
+  return join(path, ownName(child));
 }
 
 function isFolder(path) {

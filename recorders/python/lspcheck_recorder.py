@@ -12,9 +12,11 @@ ones: use `child.stdin` and `child.stdout` after the call. Needs Python 3.9 and 
 from __future__ import annotations
 
 import contextlib
+import errno
 import os
 import re
 import shutil
+import stat
 import subprocess
 import threading
 import time
@@ -22,6 +24,9 @@ from typing import Any, Awaitable, Callable, Iterable, Iterator
 
 # The version of lspcheck that this file belongs to.
 __version__ = "1.0.0"
+
+# A file is no link, where the system can say so.
+NO_LINK = getattr(os, "O_NOFOLLOW", 0)
 
 # The most bytes that one record may hold.
 MOST = 1048576
@@ -59,6 +64,21 @@ def create(path: str) -> str:
         except FileExistsError:
             number += 1
             name = f"{root}-{number}{ending}"
+
+
+def why_refused(folder: str) -> str | None:
+    """Why no log is written into a folder: whoever else could replace files there could have this
+    process write to any file of its user. In a sticky folder, such as /tmp, nobody else can."""
+    if not hasattr(os, "geteuid"):
+        return None
+    found = os.lstat(folder.rstrip("/") or "/")
+    if stat.S_ISLNK(found.st_mode):
+        return "it is a symbolic link"
+    if found.st_uid not in (os.geteuid(), 0):
+        return "it belongs to another user"
+    if found.st_mode & stat.S_IWOTH and not found.st_mode & stat.S_ISVTX:
+        return "others may write to it"
+    return None
 
 
 def server_name(words: list[str]) -> str:
@@ -109,7 +129,7 @@ class Log:
     def append(self, data: Data) -> None:
         """Appends to the log, unless it was deleted: a new one would lack the beginning."""
         with self.lock, contextlib.suppress(FileNotFoundError):
-            with open(os.open(self.path, os.O_WRONLY | os.O_APPEND), "wb") as file:
+            with open(os.open(self.path, os.O_WRONLY | os.O_APPEND | NO_LINK), "wb") as file:
                 file.write(data)
 
     def ended(self, status: int | None) -> int | None:
@@ -118,7 +138,10 @@ class Log:
             self.has_ended = True
             how = f"status {status}" if status >= 0 else f"signal {-status}"
             path = re.sub(r"(\.log)?$", ".exit", self.path, count=1)
-            with open(os.open(path, os.O_WRONLY | os.O_CREAT | os.O_TRUNC, 0o600), "w") as file:
+            # One that was left of an earlier log of this name.
+            with contextlib.suppress(FileNotFoundError):
+                os.unlink(path)
+            with open(os.open(path, os.O_WRONLY | os.O_CREAT | os.O_EXCL, 0o600), "w") as file:
                 file.write(f"{how}\ntime {time.strftime('%Y-%m-%dT%H:%M:%S%z')}\n")
         return status
 
@@ -175,7 +198,11 @@ def path_of(child: Any, path: str) -> str:
     folder."""
     is_file = path.endswith(".log") and not os.path.isdir(path)
     os.makedirs((os.path.dirname(path) or ".") if is_file else path, 0o700, exist_ok=True)
-    return path if is_file else os.path.join(path, own_name(child))
+    if is_file:
+        return path
+    if why := why_refused(path):
+        raise PermissionError(errno.EACCES, f"no log is written into this folder: {why}", path)
+    return os.path.join(path, own_name(child))
 
 
 def record(child: Any, path: str | os.PathLike[str]) -> Log:

@@ -20,7 +20,7 @@ class Session:
     """A log that is written step by step. `texts` has, for each message of the editor that sets the
     text of a document, its number, the document and the text."""
 
-    def __init__(self, seed, form=2, encoding="utf-16", ends=(), spread=1.0):
+    def __init__(self, seed, form=2, encoding="utf-16", ends=(), spread=1.0, told=None):
         self.chance, self.form, self.encoding = random.Random(seed), form, encoding
         self.words, self.spread = [*WORDS, *ends], spread
         # How many edits are left before the one whose rangeLength is wrong.
@@ -28,7 +28,8 @@ class Session:
         self.log, self.events, self.sent, self.id = b"lsp-session %d\n" % form, 0, 0, 1
         self.documents, self.texts, self.numbers, self.late = {}, [], {}, []
         offers = {"general": {"positionEncodings": [encoding]}}
-        self.send(request(1, "initialize", {"processId": 1, "capabilities": offers}))
+        told = {"processId": 1, "capabilities": offers, **(told or {})}
+        self.send(request(1, "initialize", told))
         sync = {"textDocumentSync": {"openClose": True, "change": 2}, "positionEncoding": encoding}
         self.hear(result(1, {"capabilities": sync}))
         self.send(notification("initialized", {}))

@@ -5,6 +5,7 @@ import os
 import re
 import shutil
 import subprocess
+import sys
 import threading
 
 import sessions
@@ -16,6 +17,8 @@ from trials import COMMAND, TOP, check, run, run_waiting
 URI = "file:///old/folder/a%20b.py"
 AT_THE_END = ('"shutdown"', '"exit"')
 TEXT = "def f():\n    return 1\n"
+# What is left out without it has tests of its own.
+WHOLE = ["--with-settings"]
 
 
 def small_session(uri=URI):
@@ -120,11 +123,22 @@ def says_that_the_log_changed(program, place):
 
 
 def says_its_version(program, place):
-    """That of lspcheck."""
-    version = subprocess.run([program, "--version"], capture_output=True, text=True).stdout.split()[1]
-    done = run(program, "--version", server=[], command=COMMAND)
-    assert (done.returncode, done.stdout) == (0, f"lspcheck-replay {version}\n"), done
-    assert f'"lspcheck {version}"' in (TOP / "docs/lspcheck-replay.1").read_text().split("\n")[0]
+    """That of the lspcheck that it would run, word for word."""
+    said = subprocess.run([program, "--version"], capture_output=True, text=True).stdout
+    other, missing = place / "other", "there is no lspcheck next to this command or on the PATH: use --program"
+    other.write_text("#!/bin/sh\necho 'lspcheck 9.9 (checked, not proved), commit 0123456789ab'\n")
+    other.chmod(0o755)
+    for words, status, out, errors in [
+        (["--program", program], 0, said, ""),
+        (["--program", other], 0, "lspcheck 9.9 (checked, not proved), commit 0123456789ab\n", ""),
+        (["--program", "true"], 2, "", f"lspcheck-replay: {shutil.which('true')}: this program is not lspcheck\n"),
+        ([], 2, "", f"lspcheck-replay: {missing}\n"),
+    ]:
+        how = {"capture_output": True, "text": True, "env": os.environ if words else {"PATH": str(place / "empty")}}
+        for given in (["--version", *words], [*words, "--version"]):
+            done = subprocess.run([sys.executable, COMMAND, *map(str, given)], **how)
+            assert (done.returncode, done.stdout, done.stderr) == (status, out, errors), done
+    assert f'"lspcheck {said.split()[1]}"' in (TOP / "docs/lspcheck-replay.1").read_text().split("\n")[0]
 
 
 def says_why_nothing_can_be_said(program, place):
@@ -152,11 +166,11 @@ def writes_each_value(program, place):
     session.log = session.log.replace(b'"id": %d, "result": null' % asked, b'"id": %d, "error": {"code": 1, "message": ""}' % asked)
     session.log = re.sub(rb"S (\d+)\nContent-Length: (\d+)(\r\n\r\n.*?\"error\": .*?\}\})\n", grown, session.log)
     log = put(place, session.end())
-    report = run(program, log).stdout.splitlines()
+    report = run(program, log, options=WHOLE).stdout.splitlines()
     judged = report.index(next(it for it in report if it.startswith("replayed ")))
     numbers = session.numbers
     refused = next(it for it, message in enumerate(messages_of(session.log), 1) if message.get("method") == "textDocument/hover")
-    done = run(program, log, "refuse=textDocument/hover")
+    done = run(program, log, "refuse=textDocument/hover", options=WHOLE)
     assert report[0] == "yes" and report[judged - 1] == f'document 2 {len(TEXT) + 4} "{URI}"', report
     # The server sends: answers to initialize, three requests and shutdown; three diagnostics.
     assert report[judged:] == [
@@ -184,7 +198,7 @@ def writes_the_difference(program, place):
     last, before = session.sent, session.sent - 1
     log = put(place, session.end())
     small = place / "small.log"
-    done = run(program, log, "lose=2", options=["--small", small])
+    done = run(program, log, "lose=2", options=[*WHOLE, "--small", small])
     lines = done.stdout.splitlines()
     start = lines.index(f'document "{URI}" version 2 questions 3 differ 2')
     whole = {"start": {"line": 0, "character": 0}, "end": {"line": 3, "character": 0}}
@@ -202,7 +216,7 @@ def writes_the_difference(program, place):
     # initialize, initialized, didOpen, didChange, two requests, didChange, shutdown, exit.
     assert lines[-1] == f"small {small} 9 messages", lines
     # This one shows itself: initialize, initialized, didOpen, didChange, shutdown, exit.
-    done = run(program, log, "characters", options=["--small", small])
+    done = run(program, log, "characters", options=[*WHOLE, "--small", small])
     assert done.stdout.endswith(f"\nsmall {small} 6 messages\n"), done.stdout
 
 
@@ -241,12 +255,12 @@ def replays_as_far_as_it_goes(program, place):
     number, event = session.sent, session.events
     cut = place / "cut.log"
     cut.write_bytes(good + b"E 100\nab")
-    done = run(program, cut)
+    done = run(program, cut, options=WHOLE)
     assert done.returncode == 0 and done.stdout.startswith("bad log L4 record "), done
     record = done.stdout.split()[4]
     assert f"replayed {number} editor 7 server before record {record}\n" in done.stdout, done.stdout
     cut.write_bytes(good + b"X 1\na\n" + frame(b"E", notification("exit", {})))
-    done = run(program, cut, "lose=1")
+    done = run(program, cut, "lose=1", options=WHOLE)
     assert done.returncode == 1 and f"replayed {number} editor 7 server before record" in done.stdout, done
     broken = [
         frame(b"E", {"jsonrpc": "2.0", "method": "textDocument/didClose", "params": {"textDocument": {"uri": "file:///none"}}}),
@@ -258,7 +272,7 @@ def replays_as_far_as_it_goes(program, place):
     for last in broken:
         log = place / "no.log"
         log.write_bytes(good + last + frame(b"E", request(77, "textDocument/hover", {})))
-        done = run(program, log)
+        done = run(program, log, options=WHOLE)
         assert re.match(rf"no \d+ \w+ \d+ event {event + 1}\n", done.stdout), done.stdout
         line = f"replayed {number} editor 7 server before event {event + 1}\n"
         assert done.returncode == 0 and line in done.stdout, done
@@ -281,7 +295,7 @@ def writes_the_session(program, place):
     session = small_session()
     session.form = 1
     log, new = put(place, session.end()), place / "new.log"
-    done = run(program, log, "ask", "slow=0.1", options=["--write", new])
+    done = run(program, log, "ask", "slow=0.1", options=[*WHOLE, "--write", new])
     assert done.returncode == 0 and check(program, new) == "yes", done
     assert new.read_bytes().startswith(b"lsp-session 2\n") and new.stat().st_mode & 0o777 == 0o600
     assert answered_before(program, log) == answered_before(program, new)[: session.sent - 3]
@@ -326,7 +340,7 @@ def puts_other_folders(program, place):
     session.open(URI, "/old/folder/x\n")
     session.send(notification("workspace/didChangeConfiguration", {"settings": {"/old/folder/x": ["/old/folder/y/", "-I/old/folder", "/old/folder2"]}}))
     log, new = put(place, session.end()), place / "new.log"
-    done = run(program, log, options=["--write", new, "--map", f"/old/folder/={new_folder}"])
+    done = run(program, log, options=[*WHOLE, "--write", new, "--map", f"/old/folder/={new_folder}"])
     assert done.returncode == 0 and check(program, new) == "yes", done
     assert f'document "{URI}" version 0 questions 3 differ 0' in done.stdout, done.stdout
     first, _, opened, settings, *_ = messages_of(new.read_bytes())
@@ -350,11 +364,11 @@ def asks_what_is_offered(program, place):
     """The help, and the manual page: they have the same options."""
     helped = run(program, "--help", server=[], command=COMMAND).stdout
     manual = (TOP / "docs/lspcheck-replay.1").read_text().replace("\\-", "-")
-    options = re.findall(r"^  (--\w+)", helped, re.M)
-    assert len(options) == 7, helped
-    assert sorted(re.findall(r"^\.TP\n\.BI? (--\w+)", manual, re.M)) == sorted(options), options
+    options = re.findall(r"^  (--[\w-]+)", helped, re.M)
+    assert len(options) == 8, helped
+    assert sorted(re.findall(r"^\.TP\n\.BI? (--[\w-]+)", manual, re.M)) == sorted(options), options
     synopsis = manual.partition(".SH DESCRIPTION")[0]
-    assert sorted([*re.findall(r"--\w+", synopsis), "--version"]) == sorted(options), synopsis
+    assert sorted([*re.findall(r"--[\w-]+", synopsis), "--version"]) == sorted(options), synopsis
     statuses = re.findall(r"^\.TP\n\.B (\d+)$", manual, re.M)
     assert statuses == ["0", "1", "2", "3", "64"], statuses
     assert re.findall(r"\b(\d+) (?:no|a|nothing|bad) ", helped.replace("\n", " ")) == statuses, helped

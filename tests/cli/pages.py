@@ -164,6 +164,7 @@ def try_judge(trial):
     for what, logs, status, words, pages in [
         ("clean", {"a": clean, "b": clean}, 0, "logs/a.log: yes\nlogs/b.log: yes\n", []),
         ("a violation", {"a": clean, "b c": stopped}, 1, "phase exited\n", ["b c.html"]),
+        ("names", {"a": clean, "b c": stopped}, 1, "\n\nlogs/b c.log:\nno ", ["b c.html"]),
         ("nothing compared", {"a": b"lsp-session 2\n"}, 1, "note nothing-compared\n", []),
         ("a damaged log", {"a": clean[:-1]}, 2, "bad log L4 ", ["a.html"]),
         ("no log", {}, 3, "", []),

@@ -82,6 +82,25 @@ def tells_each(place, program):
     yield "nobody else reads it", copy.stat().st_mode & 0o777 == 0o600, copy.stat()
 
 
+def keeps_others_files(place, program):
+    """Files of the names that those next to the log would have stay as they are, and this is said."""
+    editor = checked(place, program, "--check")
+    editor.has_logged(b'"initialized"')
+    log, = editor.logs.glob("*.log")
+    explain, ended = log.with_suffix(".explain"), log.with_suffix(".exit")
+    for path in (explain, ended):
+        path.write_text("of another\n")
+    editor.tell("initialized", {})
+    found = heads(editor, 1)
+    yield "is told", found == ["no 404 editor 3 event 4"], found
+    yield "the session continues", editor.quit() == 0, editor.words()
+    for path in (explain, ended):
+        yield f"{path.suffix} stays", path.read_text() == "of another\n", path.read_text()
+    said = [line for line in editor.words().split("\n") if line.startswith("proxy: ")]
+    wanted = [f"proxy: {explain}: File exists; explanations are written here alone", f"proxy: {ended}: File exists"]
+    yield "is said", sorted(said) == sorted(wanted), said
+
+
 def tells_lost_end(place, program):
     """The editor adds a line end to its last line, and does not send it. The texts were equal
     before, so the option is not offered: it is reported all the same."""
@@ -272,6 +291,7 @@ TESTS = {
     "vscode: a named pipe": from_vscode(os.mkfifo, None),
     "vscode: a lost change": from_vscode(lambda path: path.write_bytes(b""), 3),
     "check: each violation": tells_each,
+    "check: files of others": keeps_others_files,
     "check: a lost line end": tells_lost_end,
     "check: notes": tells_notes,
     "check: no violation": tells_nothing,

@@ -10,7 +10,7 @@ import time
 from datetime import datetime, timedelta, timezone
 from pathlib import Path
 
-from processes import SECONDS, until
+from processes import SECONDS, Skipped, until
 from session import PROXY, PYTHON, SERVER, TRACED, Editor
 
 sys.path.insert(0, str(PROXY.parent))
@@ -128,8 +128,9 @@ def same_number(place):
     words = ["unshare", "--fork", "--pid", "--mount-proc"]
     if subprocess.run([*words, "true"], capture_output=True).returncode != 0:
         words = ["unshare", "--map-root-user", "--fork", "--pid", "--mount-proc"]
-    if subprocess.run([*words, "true"], capture_output=True).returncode != 0:
-        words = []
+    tried = subprocess.run([*words, "true"], capture_output=True, text=True)
+    if tried.returncode != 0:
+        raise Skipped(f"processes can have no name space of their own: {tried.stderr.strip()}")
     traced = f"'{PYTHON}' -B '{TRACED}' '{place}/trace' {SECONDS} 1"
     script = f"printf x | {traced} '{place}/logs' cat"
     shell, pipe = [*words, "sh", "-c", script], {"stdout": subprocess.PIPE}

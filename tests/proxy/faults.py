@@ -10,7 +10,12 @@ import subprocess
 import time
 from pathlib import Path
 
+from processes import Skipped
 from session import PATIENCE, QUIET, Editor, records, saved, sent
+
+
+# The number of a user who owns nothing.
+NOBODY = 65534
 
 
 def frame(content):
@@ -126,8 +131,9 @@ def no_room(place):
     disk = place / "disk"
     disk.mkdir()
     words = ["mount", "-t", "tmpfs", "-o", "size=4k", "none", disk]
-    if subprocess.run(words, capture_output=True).returncode != 0:
-        return
+    mounted = subprocess.run(words, capture_output=True, text=True)
+    if mounted.returncode != 0:
+        raise Skipped(f"no small file system can be mounted: {mounted.stderr.strip()}")
     try:
         editor = Editor(place, logs=disk / "logs")
         editor.tell("large", ["x" * 10_000])
@@ -162,6 +168,52 @@ def below_file(place):
 def read_only(place):
     """A folder that exists but takes no files, whoever is asking."""
     return Path("/proc")
+
+
+def linked(place):
+    (place / "own").mkdir()
+    (place / "logs").symlink_to("own")
+    return place / "logs"
+
+
+def of_another(place):
+    logs = place / "logs"
+    logs.mkdir()
+    try:
+        os.chown(logs, NOBODY, NOBODY)
+    except PermissionError:
+        raise Skipped("only root can give a folder to another user") from None
+    return logs
+
+
+def open_to_others(place):
+    logs = place / "logs"
+    logs.mkdir()
+    logs.chmod(0o707)
+    return logs
+
+
+def refused(make, why):
+    """A test with a folder in which someone else could replace a log."""
+
+    def trial(place):
+        logs = make(place)
+        yield from no_folder(lambda _: logs)(place)
+        said = (place / "said").read_text()
+        yield "why", said == f"proxy: {logs}: {why}; nothing is recorded\n", said
+        yield "nothing is there", not list(logs.iterdir()), list(logs.iterdir())
+
+    return trial
+
+
+def sticky(place):
+    """A folder in which nobody else can replace a log, such as /tmp."""
+    logs = place / "logs"
+    logs.mkdir()
+    logs.chmod(0o1777)
+    editor = Editor(place, logs=logs).start()
+    yield "the session", editor.quit() == 0 and editor.words() == "", editor.words()
+    yield "the log", b"initialized" in editor.log(), editor.log()
 
 
 def folder_vanishes(place):
@@ -214,6 +266,10 @@ TESTS = {
     "faults: no room": no_room,
     "faults: below a file": no_folder(below_file),
     "faults: no files there": no_folder(read_only),
+    "faults: a link": refused(linked, "it is a symbolic link"),
+    "faults: another's folder": refused(of_another, "it belongs to another user"),
+    "faults: a folder for all": refused(open_to_others, "others may write to it"),
+    "faults: a sticky folder": sticky,
     "faults: the folder vanishes": folder_vanishes,
     "faults: the log is deleted": log_deleted,
     "faults: the recorder is killed": recorder_stops(signal.SIGKILL),

@@ -3,4 +3,3 @@ pub mod Endings
 pub mod Fronts
 pub mod Asked
 pub mod Found
-mod Worked

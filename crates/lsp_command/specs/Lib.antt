@@ -3,7 +3,6 @@ pub mod Ports
 pub mod Remarks
 pub mod Status
 pub mod Tasks
-pub mod CommandLine
 pub mod Words
 pub mod Slips
 pub mod Several

@@ -4,8 +4,6 @@ use Rattle.std.specs.Int.NonZero.{non_zero_u64_get}
 use Rattle.lsp_extract.specs.declared.event.EventOutcome.{EventOutcome}
 use Rattle.lsp_extract.specs.Event.{GivesEvent}
 use Rattle.lsp_extract.specs.Normal.{Normalizes}
-use Rattle.lsp_json_run.specs.JsonRun.{WritesJson, run_in}
-use Rattle.lsp_json_run.specs.declared.form.Form.TheVariants as forms
 use Rattle.lsp_judge.specs.Checked.{Checked, CheckedLine}
 use Rattle.lsp_judge.specs.JudgingRun.{check_run, show_run}
 use Rattle.lsp_judge.specs.Objects.{CheckedObject}
@@ -20,8 +18,10 @@ use Rattle.lsp_verdict.specs.declared.outcome.RunFault.TheVariants as faults
 use Rattle.lsp_frame.specs.Bounds.{Bounds}
 use Rattle.lsp_frame.specs.Told.{Told, CountsFailure, KeepsBytes}
 use Rattle.lsp_frame.specs.declared.io.Failed.{Failed}
+use Rattle.lsp_replay.specs.JsonRun.{WritesJson, run_in}
 use Rattle.lsp_replay.specs.Run.{PassesOn}
 use Rattle.lsp_replay.specs.TextAnswers.{WritesText}
+use Rattle.lsp_replay.specs.declared.form.Form.TheVariants as forms
 use Rattle.lsp_explain.specs.AllNotes.{noted_run}
 use Rattle.lsp_explain.specs.ExplainRuns.{all_run, explain_run}
 use Rattle.lsp_explain.specs.Compared.{compared_run}

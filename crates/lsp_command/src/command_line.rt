@@ -1,9 +1,8 @@
-//! The words of the command line, and what they ask for.
+//! What the words of the command line ask for, by what `lsp_words` finds in them.
 //!
 //! `request_of` reads the words: a [`Request`] is a [`Task`] and the inputs to do it on. A [`Slip`]
 //! says what the words may have left out, and a [`Conflict`] what is asked and cannot be done.
 
-mod commands;
 mod several;
 mod slip;
 mod task;

@@ -32,7 +32,7 @@ pub use command_line::{
 };
 pub use hint::{Hint, hint_of};
 pub use input::BufferedInput;
-pub use lsp_json_run::Form;
+pub use lsp_replay::Form;
 pub use output::BufferedOutput;
 pub use pace::{Pace, Supply};
 pub use remark::{remark_of, report_apart};

@@ -15,13 +15,13 @@ use crate::task_outcome::{TaskOutcome, of_event, of_run};
 use crate::watch::Watch;
 use lsp_explain::{run_compared, run_explain, run_explain_all, run_explain_noted};
 use lsp_frame::{Failed, Limits, Sink, Source};
-use lsp_json_run::Form;
 use lsp_judge::{
     Completeness, Lines, Outcome, RunFault, run_check, run_check_complete, run_check_json,
     run_check_line, run_check_object, run_event, run_frames, run_normal, run_show, run_show_json,
     run_show_long, run_text, run_upgrade,
 };
 use lsp_redact::run_redact;
+use lsp_replay::Form;
 use lsp_survey::{run_show_all, run_survey, run_text_all};
 use std::alloc::Global;
 use std::io::{Read, Write};

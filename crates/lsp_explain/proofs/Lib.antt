@@ -49,3 +49,4 @@ pub mod QuietRuns
 pub mod BehindSteps
 pub mod NotedSteps
 pub mod NotesBeside
+pub mod ComparedTexts

@@ -7,7 +7,7 @@ use Rattle.lsp_docs.specs.Documents.{Terms}
 use Rattle.lsp_explain.specs.AllNotes.{noted_run}
 use Rattle.lsp_explain.specs.Explained.{Breach, Explained, breach, is_cause}
 use Rattle.lsp_explain.specs.ExplainRuns.{SaysCauses, all_run, explain_run, has_cause, may_keep}
-use Rattle.lsp_json_run.specs.JsonRun.{IsQuiet}
+use Rattle.lsp_replay.specs.JsonRun.{IsQuiet}
 use Rattle.lsp_verdict.specs.Heard.{Heard, Rests, heard_events, notes_of}
 use Rattle.lsp_verdict.specs.Offences.{offence_by, rule_at}
 use Rattle.lsp_verdict.specs.declared.completeness.Completeness.{Completeness}

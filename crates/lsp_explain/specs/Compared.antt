@@ -1,16 +1,22 @@
 -- The whole texts of a verdict that says that two texts differ: the one that the messages make, and
 -- the one that was recorded.
-use Rattle.std.specs.Prelude.{List, Option, Some, None, option_map}
+use Rattle.std.specs.Prelude.{◌≡◌, ℕ, List, Option, Some, None, option_map, unwrap_or}
 use Rattle.lsp_docs.specs.Documents.{Terms}
 use Rattle.lsp_docs.specs.Calls.{Text}
+use Rattle.lsp_frame.specs.Bounds.{Bounds}
 use Rattle.lsp_facts.specs.TwoTexts.{TwoTexts, texts_at}
 use Rattle.lsp_replay.specs.Run.{Run, Tail}
 use Rattle.lsp_replay.specs.Telling.{kept_before}
 use Rattle.lsp_replay.specs.TextAnswers.{answer_run}
 use Rattle.lsp_verdict.specs.Event.{Event}
 use Rattle.lsp_verdict.specs.Heard.{Heard}
+use Rattle.lsp_verdict.specs.LookBack.{first_of}
+use Rattle.lsp_verdict.specs.Offences.{Offence, events_of}
+use Rattle.lsp_verdict.specs.Outcome.{log_terms}
 use Rattle.lsp_verdict.specs.Shown.{TextAnswer, text_is, no_difference, refused}
-use Rattle.lsp_verdict.specs.Verdict.{Verdict, bad_log_of, offence}
+use Rattle.lsp_verdict.specs.Survey.{IsSurvey}
+use Rattle.lsp_verdict.specs.Verdict.{Summary, Verdict, bad_log_of, offence}
+use Rattle.lsp_verdict.specs.declared.completeness.Completeness.TheVariants.{Ignored}
 use Rattle.lsp_explain.specs.declared.compared.ComparedText.{ComparedText}
 use Rattle.lsp_explain.specs.declared.compared.ComparedText.TheVariants.{ByMessages, InEditor}
 
@@ -37,6 +43,20 @@ answer_at which terms before event =
 abbrev pub sound_answer : Option Verdict → TextAnswer
 sound_answer None = no_difference
 sound_answer (Some v) = refused v
+
+-- ---- what the survey of a log says of it
+
+-- the answer at the first event that offends, else at the end
+abbrev pub compared_answer : ComparedText → Terms → Option Verdict → List Event → TextAnswer
+compared_answer which terms bad events =
+    unwrap_or (first_of (answer_at which terms) events) (sound_answer bad)
+
+-- **the answer on a log**
+abbrev pub AnswersCompared : ComparedText → Bounds → List ℕ → TextAnswer → Type 0
+AnswersCompared which limits log answer =
+    (found : List Offence) × (bad : Option Verdict) × (s : Summary)
+    × (is : IsSurvey Ignored limits log found bad s)
+    × (answer ≡ compared_answer which (log_terms limits is.format) bad (events_of is.notes))
 
 -- ---- the run
 

@@ -5,17 +5,19 @@ use Rattle.lsp_docs.specs.Documents.{Terms}
 use Rattle.lsp_frame.specs.Bounds.{Bounds, IsInRange}
 use Rattle.lsp_facts.specs.Fact.{Fact}
 use Rattle.lsp_log.specs.declared.fault.LogCode.{LogCode}
+use Rattle.lsp_replay.specs.Run.{IsPassed}
 use Rattle.lsp_replay.specs.RunLaws.{AnswersVerdict, HasOneOutput, IsAllSaid, WritesAtItsEnd}
 use Rattle.lsp_verdict.specs.Complete.{IsVerdictBy}
 use Rattle.lsp_verdict.specs.Heard.{Heard, Rests, heard_events}
 use Rattle.lsp_verdict.specs.Offences.{Offence}
 use Rattle.lsp_verdict.specs.Report.{report}
+use Rattle.lsp_verdict.specs.Shown.{IsText}
 use Rattle.lsp_verdict.specs.Survey.{IsSurvey, shown_of}
 use Rattle.lsp_verdict.specs.Verdict.{Summary, Verdict, yes}
 use Rattle.lsp_verdict.specs.declared.completeness.Completeness.{Completeness}
 use Rattle.lsp_verdict.specs.declared.outcome.Outcome.{Outcome}
 use Rattle.lsp_explain.specs.AllNotes.{noted_run}
-use Rattle.lsp_explain.specs.Compared.{compared_run}
+use Rattle.lsp_explain.specs.Compared.{AnswersCompared, compared_run}
 use Rattle.lsp_explain.specs.ExplainRuns.{all_run, end_explanation, end_verdict, explain_run}
 use Rattle.lsp_explain.specs.ExplainRuns.{first_lines}
 use Rattle.lsp_explain.specs.Explained.{Breach, Explained, all_closing, cause_lines, noticed_by}
@@ -74,6 +76,16 @@ YesIsReport = (terms : Terms) (heard : List Heard) (rests : Rests) (fault : Opti
     (flaw : List Fact) (t : Summary) → end_verdict terms heard fault [] ≡ yes t
     → end_explanation terms heard rests fault flaw []
     ≡ report (yes t) ++ note_lines (notes_by (yes t) (noticed_by terms (heard_events heard) []))
+
+-- ---- one of two texts
+
+-- **What `explain --by-messages` and `--in-editor` write of a log is the answer on it**, and so
+-- they end.
+abbrev pub ComparedTextIsOfSurvey : Type 0
+ComparedTextIsOfSurvey =
+    (which : ComparedText) (limits : Bounds) (log out : List ℕ) (outcome : Outcome)
+    → IsPassed (compared_run which) limits log out outcome
+    → IsText (AnswersCompared which limits) log out outcome
 
 -- ---- all that is wrong
 

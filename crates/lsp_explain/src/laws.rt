@@ -3,6 +3,7 @@ ghost use Rattle.lsp_explain.specs.AllNotes.{NotesAreBeside};
 ghost use Rattle.lsp_explain.specs.AsciiLines.{NoFitsInAscii};
 ghost use Rattle.lsp_explain.specs.ExplainLaws.{AllAnswersVerdict, BeginsWithReport};
 ghost use Rattle.lsp_explain.specs.ExplainLaws.{CausesAreExplained, ComparedAtItsEnd};
+ghost use Rattle.lsp_explain.specs.ExplainLaws.{ComparedTextIsOfSurvey};
 ghost use Rattle.lsp_explain.specs.ExplainLaws.{ExplanationAnswersVerdict, ExplanationAtItsEnd};
 ghost use Rattle.lsp_explain.specs.ExplainLaws.{FirstIsVerdict, NotedAnswersVerdict};
 ghost use Rattle.lsp_explain.specs.ExplainLaws.{OneComparedText, OneExplanation};
@@ -52,6 +53,11 @@ pub fn notes_are_beside()
 /// A log has exactly one answer for each of the two texts of a verdict that says that they differ.
 pub fn one_compared_text()
     ensures { OneComparedText }
+{}
+
+/// It is that of the two texts which differ at the first event that offends.
+pub fn compared_text_is_of_survey()
+    ensures { ComparedTextIsOfSurvey }
 {}
 
 /// The answer that comes with an explanation is the verdict on the log.

@@ -3,7 +3,7 @@ ghost use Rattle.std.specs.Prelude.{◌≡◌, ◌++◌, ◌<◌, ◌^◌, [], L
 ghost use Rattle.std.specs.Prelude.{string_bytes};
 ghost use Rattle.std.specs.List.{flat_map};
 ghost use Rattle.lsp_docs.specs.Documents.{Terms};
-ghost use Rattle.lsp_json_run.specs.JsonRun.{run_in};
+ghost use Rattle.lsp_replay.specs.JsonRun.{run_in};
 ghost use Rattle.lsp_replay.specs.Run.{PassesOn};
 ghost use Rattle.lsp_replay.specs.Telling.{Closes, IsEnd, Stood};
 ghost use Rattle.lsp_survey.specs.Reported.{IsTally};
@@ -22,8 +22,7 @@ ghost use Rattle.lsp_explain.specs.Trails.{StandsAfter, terms_in};
 use crate::offence_facts::{push_end, push_flaw, push_offence};
 use crate::trail::{Past, Trail};
 use lsp_frame::{Limits, Sink, Source};
-use lsp_json_run::{Form, pass_in};
-use lsp_replay::{Account, End, Events, Fate, Flow, LogEvents, Seen, last_offence};
+use lsp_replay::{Account, End, Events, Fate, Flow, Form, LogEvents, Seen, last_offence, pass_in};
 use lsp_rpc::Result;
 use lsp_survey::{Losses, OffenceCount, SessionEnd, session_end};
 use lsp_text::Lined;

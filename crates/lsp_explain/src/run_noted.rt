@@ -1,7 +1,7 @@
 //! Explains all that is wrong with a log, with the notes on what breaks no rule.
 ghost use Rattle.std.specs.Prelude.{◌≡◌, []};
 ghost use Rattle.lsp_docs.specs.Documents.{Terms};
-ghost use Rattle.lsp_json_run.specs.JsonRun.{run_in};
+ghost use Rattle.lsp_replay.specs.JsonRun.{run_in};
 ghost use Rattle.lsp_replay.specs.Run.{PassesOn};
 ghost use Rattle.lsp_verdict.specs.Runs.{ports};
 ghost use Rattle.lsp_verdict.specs.declared.completeness.Completeness.{Completeness};
@@ -11,8 +11,7 @@ use crate::notes::NotesAlong;
 use crate::run_all::AllCauses;
 use crate::trail::Past;
 use lsp_frame::{Limits, Sink, Source};
-use lsp_json_run::{Form, pass_in};
-use lsp_replay::{Account, End, Events, Flow, LogEvents, Seen};
+use lsp_replay::{Account, End, Events, Flow, Form, LogEvents, Seen, pass_in};
 use lsp_rpc::Result;
 use lsp_text::Lined;
 use lsp_verdict::{Completeness, Outcome, RunFault};

@@ -2,11 +2,12 @@
 //!
 //! `words` cuts a line into words, and `field` tells whether the pattern of a row takes them.
 //! `members` writes what they become, and `lines` the objects. `rows` has the rows. `files` writes
-//! the object of one of several logs.
+//! the object of one of several logs. `laws` has what is true of the rows.
 #![tactic(auto)]
 
 mod field;
 mod files;
+mod laws;
 mod lines;
 mod members;
 mod rows;

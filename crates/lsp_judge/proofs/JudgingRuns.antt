@@ -171,7 +171,7 @@ module _ (asked : JudgingAsked) where
                   (append_assoc front (shown_line asked.lines first h) rest) given,
             )
 
-  gives : (limits : Bounds) (log out : List ℕ) (outcome : Outcome)
+  pub gives : (limits : Bounds) (log out : List ℕ) (outcome : Outcome)
       → IsPassed (judging_run asked) limits log out outcome
       → (v : Verdict) × Gives asked limits log out v × IsJudged v outcome
   gives limits log out outcome p = by_end p.is

@@ -7,5 +7,6 @@ pub mod JudgingRuns
 pub mod TextRuns
 pub mod Finals
 pub mod JudgingSteps
+pub mod JudgedRuns
 pub mod Quiet
 pub mod UpgradedLogs

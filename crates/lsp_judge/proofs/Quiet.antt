@@ -3,7 +3,7 @@ use Rattle.std.specs.Prelude.{◌||◌, is_some}
 use Rattle.std.proofs.Common.{◌≡◌, ℕ, Bool, true, false, List, [], Option, Some, None, refl}
 use Rattle.std.proofs.Common.{ap, ◌∙◌}
 use Rattle.lsp_judge.specs.JudgingRun.{JudgingAsked, judging_run, said_by}
-use Rattle.lsp_json_run.specs.JsonRun.{IsQuiet}
+use Rattle.lsp_replay.specs.JsonRun.{IsQuiet}
 use Rattle.lsp_replay.specs.Lines.{shown_line}
 use Rattle.lsp_replay.specs.Telling.{no_of}
 use Rattle.lsp_verdict.specs.Heard.{Heard}

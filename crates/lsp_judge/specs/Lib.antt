@@ -1,5 +1,6 @@
 pub mod Answered
 pub mod Checked
+pub mod JudgingLaws
 pub mod JudgingRun
 pub mod Objects
 pub mod TextRun

@@ -1,12 +1,11 @@
 //! Judges a log and writes the report, or shows the events before it too, as JSON.
-ghost use Rattle.lsp_json_run.specs.JsonRun.{WritesJson};
+ghost use Rattle.lsp_replay.specs.JsonRun.{WritesJson};
 ghost use Rattle.lsp_judge.specs.JudgingRun.{check_run, show_run};
 ghost use Rattle.lsp_verdict.specs.Runs.{ports};
 
 use crate::judging::{Form, Judging};
 use lsp_frame::{Limits, Sink, Source};
-use lsp_json_run::Json;
-use lsp_replay::pass;
+use lsp_replay::{Json, pass};
 use lsp_verdict::{Completeness, Lines, Outcome, RunFault};
 use std::alloc::Global;
 

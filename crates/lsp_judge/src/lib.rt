@@ -22,9 +22,9 @@ mod contents;
 mod ending;
 mod judge;
 mod judging;
+mod laws;
 mod ruling;
 mod show;
-mod show_laws;
 mod text;
 mod upgrade;
 
@@ -33,6 +33,7 @@ pub use check::{run_check, run_check_complete};
 pub use check_line::{compared_nothing, run_check_line};
 pub use check_object::run_check_object;
 pub use judge::Judge;
+pub use laws::{judging_answers_verdict, one_judging_output, one_shown, some_shown};
 pub use lsp_extract::{
     EventOutcome, event_is_numbered, normal_form_keeps_events, normal_form_keeps_verdict,
     normal_form_stays, one_event, one_normal_form, one_run, run_event, run_frames, run_normal,
@@ -52,6 +53,5 @@ pub use lsp_verdict::{
     upgrade_stays, yes_means_kept,
 };
 pub use show::{run_show, run_show_long};
-pub use show_laws::{one_shown, some_shown};
 pub use text::{run_text, text_after};
 pub use upgrade::run_upgrade;

@@ -25,3 +25,5 @@ pub mod AllHeard
 pub mod TextRuns
 pub mod Outputs
 pub mod RunLaws
+pub mod JsonSteps
+pub mod JsonRuns

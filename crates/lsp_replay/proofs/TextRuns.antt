@@ -316,7 +316,8 @@ module _ (answer_at : Terms → List Heard → Heard → Option TextAnswer)
           ends = e.closes.1;
         }
 
-        is_text : IsText Answers log out outcome
+        -- **it is written, and so the run ends**
+        pub is_text : IsText Answers log out outcome
         is_text = by_end p.is
           where
             by_end : StopsIn run terms p.tail.rests p.heard out outcome

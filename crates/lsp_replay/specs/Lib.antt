@@ -11,3 +11,4 @@ pub mod Keeping
 pub mod TextAnswers
 pub mod Run
 pub mod RunLaws
+pub mod JsonRun

@@ -5,10 +5,15 @@
 //! heard: one that breaks a rule is refused, and leaves what is held as it was, so that the next
 //! can be heard after those before it. `pass` reads a log, hears its events, skips each that
 //! offends, and lends them all to the `Account` of a run, whose text it writes.
+//!
+//! `Json` is an account around an account: the lines of each step are made into objects. `pass_in`
+//! writes what an account says in either form.
 #![tactic(auto)]
 
 mod account;
+mod as_json;
 mod events;
+mod form;
 mod heard;
 mod held_text;
 mod lines;
@@ -21,7 +26,9 @@ mod summary;
 mod text_answer;
 
 pub use account::Account;
+pub use as_json::Json;
 pub use events::Events;
+pub use form::{Form, pass_in};
 pub use heard::EventPlace;
 pub use held_text::HeldText;
 pub use log_events::{End, Entry, LogEvents, Next};

@@ -8,3 +8,4 @@ pub mod SurveySteps
 pub mod SurveyRuns
 pub mod Showing
 pub mod Quiet
+pub mod KeptTexts

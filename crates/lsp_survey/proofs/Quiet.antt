@@ -2,7 +2,7 @@
 use Rattle.std.specs.Prelude.{◌||◌, filter, is_some, not}
 use Rattle.std.proofs.Common.{◌≡◌, ℕ, Bool, true, false, List, [], ◌∷◌, Option, Some, None, refl}
 use Rattle.std.proofs.Common.{◌∙◌}
-use Rattle.lsp_json_run.specs.JsonRun.{IsQuiet}
+use Rattle.lsp_replay.specs.JsonRun.{IsQuiet}
 use Rattle.lsp_replay.specs.Lines.{shown_line}
 use Rattle.lsp_replay.specs.Telling.{rule_of}
 use Rattle.lsp_survey.specs.Lost.{may_lose}

@@ -2,11 +2,13 @@
 use Rattle.std.specs.Prelude.{◌≡◌, ℕ, List, ◌++◌, Bool, true, false, Option, filter}
 use Rattle.std.specs.List.{flat_map}
 use Rattle.lsp_frame.specs.Bounds.{Bounds, IsInRange}
+use Rattle.lsp_replay.specs.Run.{IsPassed}
 use Rattle.lsp_replay.specs.RunLaws.{AnswersVerdict, HasOneOutput, IsAllSaid, WritesAtItsEnd}
-use Rattle.lsp_survey.specs.KeptText.{kept_text_run}
+use Rattle.lsp_survey.specs.KeptText.{AnswersKept, kept_text_run}
 use Rattle.lsp_survey.specs.Reported.{is_every}
 use Rattle.lsp_survey.specs.SurveyRun.{report_run, show_all_run}
 use Rattle.lsp_verdict.specs.Offences.{Offence}
+use Rattle.lsp_verdict.specs.Shown.{IsText}
 use Rattle.lsp_verdict.specs.Survey.{IsSurvey, all_report, offence_lines}
 use Rattle.lsp_verdict.specs.Verdict.{Summary, Verdict}
 use Rattle.lsp_verdict.specs.declared.completeness.Completeness.{Completeness}
@@ -57,6 +59,14 @@ ReportsSurvey = (completeness : Completeness) (listing : Listing) (limits : Boun
     (log out : List ℕ) (ended : Option Outcome)
     → IsAllSaid (report_run completeness listing) limits log out ended
     → IsReported completeness limits listing log out
+
+-- ---- the text after a message
+
+-- **What `text --all` writes of a log is the answer on it**, and so it ends.
+abbrev pub KeptTextIsOfSurvey : Type 0
+KeptTextIsOfSurvey = (n : ℕ) (uri : List ℕ) (limits : Bounds) (log out : List ℕ) (outcome : Outcome)
+    → IsPassed (kept_text_run n uri) limits log out outcome
+    → IsText (AnswersKept n uri limits) log out outcome
 
 -- ---- all events
 

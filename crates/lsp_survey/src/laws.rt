@@ -1,5 +1,6 @@
 //! Laws of the runs, each the contract of a function that does nothing.
 ghost use Rattle.lsp_survey.specs.SurveyLaws.{AllShownAnswersVerdict, KeptTextAtItsEnd};
+ghost use Rattle.lsp_survey.specs.SurveyLaws.{KeptTextIsOfSurvey};
 ghost use Rattle.lsp_survey.specs.SurveyLaws.{OneAllShown, OneKeptText, OneReport};
 ghost use Rattle.lsp_survey.specs.SurveyLaws.{ReportAnswersVerdict, ReportsSurvey, ShowsReport};
 
@@ -32,6 +33,11 @@ pub fn all_shown_answers_verdict()
 /// Nothing of such a text is written before its run ends.
 pub fn kept_text_at_its_end()
     ensures { KeptTextAtItsEnd }
+{}
+
+/// It is the text that the kept events make of the document, up to that message.
+pub fn kept_text_is_of_survey()
+    ensures { KeptTextIsOfSurvey }
 {}
 
 /// The report is that of the survey of the log.

@@ -20,8 +20,8 @@ mod text;
 
 pub use end_of_session::{SessionEnd, session_end};
 pub use laws::{
-    all_shown_answers_verdict, all_shown_is_report, kept_text_at_its_end, one_all_shown,
-    one_kept_text, one_report, report_answers_verdict, report_is_of_survey,
+    all_shown_answers_verdict, all_shown_is_report, kept_text_at_its_end, kept_text_is_of_survey,
+    one_all_shown, one_kept_text, one_report, report_answers_verdict, report_is_of_survey,
 };
 pub use losses::Losses;
 pub use lsp_verdict::Listing;

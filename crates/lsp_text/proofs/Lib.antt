@@ -43,6 +43,7 @@ pub mod PartEdits
 pub mod PastEnds
 pub mod FoundChanges
 pub mod PartLines
+pub mod Removals
 pub mod Rests
 pub mod Patches
 pub mod SameEnds

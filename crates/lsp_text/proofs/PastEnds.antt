@@ -1,42 +1,39 @@
 -- How far a text goes where a position lies past its end, and the units of lines and of spans.
-use Rattle.std.proofs.Common.{◌≡◌, ◌<◌, ◌≤◌, ◌+◌, ◌-◌, ℕ, Bool, true, false, List, [], ◌∷◌, ◌++◌}
-use Rattle.std.proofs.Common.{length, take, drop, Option, Some, None, refl, sym, ap, subst, ◌∙◌, arith}
-use Rattle.std.proofs.Common.{⊎_elim, inl, inr}
-use Rattle.std.proofs.lemmas.Bool.{cond-true, cond-false, lt-ltb, le-ltb, cases_lt}
-use Rattle.std.proofs.lemmas.List.{take-append-drop, take_all, take_at, drop_at, take-append-le}
-use Rattle.std.proofs.Common.{length-append, append_assoc, take-add}
+use Rattle.std.proofs.Common.{◌≡◌, ◌<◌, ◌≤◌, ◌+◌, ◌-◌, ℕ, true, List, [], ◌∷◌, ◌++◌}
+use Rattle.std.proofs.Common.{length, take, drop, Option, Some, None, refl, sym, ap, ◌∙◌, arith}
+use Rattle.std.proofs.Common.{⊎_elim}
+use Rattle.std.proofs.lemmas.Bool.{cond-false, le-ltb}
+use Rattle.std.proofs.lemmas.List.{take-append-drop, take_all, take_at, drop_at}
+use Rattle.std.proofs.Common.{length-append}
 use Rattle.std.specs.List.{slice_get, slice_range}
-use Rattle.std.specs.Option.{option_map}
-use Rattle.std.specs.Str.{chars, IsUtf8, IsCharBoundary}
+use Rattle.std.specs.Str.{chars, IsUtf8}
 use Rattle.lsp_types.specs.declared.position.Encoding.{Encoding}
 use Rattle.lsp_types.specs.declared.position.Encoding.TheVariants.{Utf8}
 use Rattle.lsp_types.specs.declared.position.Position.{Position}
 use Rattle.lsp_types.specs.declared.position.Span.{Span}
-use Rattle.lsp_text.specs.Lines.{Line, lines_of, line_at, text_of, spelled}
-use Rattle.lsp_text.specs.Places.{units, place_in_line, place_of, IsPlaceInLine, Denotes}
+use Rattle.lsp_text.specs.Lines.{Line, lines_of, line_at}
+use Rattle.lsp_text.specs.Places.{units, place_of}
 use Rattle.lsp_text.specs.Offsets.{IsTextOffset}
 use Rattle.lsp_text.specs.Steps.{line_number}
 use Rattle.lsp_text.specs.Parts.{CanReplace, bytes_between}
 use Rattle.lsp_text.specs.Windows.{text_with}
 use Rattle.lsp_text.specs.LentLines.{IsHeldLine, IsLentLine, IsOffsetIn, line_of}
 use Rattle.lsp_text.specs.Findings.{extent_of, extent_at, text_extent, between, held_by, past_by}
-use Rattle.lsp_text.specs.Findings.{past_of, length_of, FitsLine, found_in, nothing}
+use Rattle.lsp_text.specs.Findings.{past_of, length_of, found_in}
 use Rattle.lsp_text.specs.declared.findings.PastEnd.{PastEnd}
 use Rattle.lsp_text.specs.declared.findings.OtherLength.{OtherLength}
 use Rattle.lsp_text.specs.declared.findings.Findings.{Findings}
 use Rattle.std.specs.Option.{option_or}
-use Rattle.std.specs.Ordering.{int_eq}
-use Rattle.std.specs.Prelude.{ℤ, pos}
+use Rattle.std.specs.Prelude.{ℤ}
 use Rattle.lsp_text.specs.declared.findings.Extent.{Extent}
-use Rattle.lsp_text.specs.declared.findings.Extent.TheVariants.{Lines, Units}
+use Rattle.lsp_text.specs.declared.findings.Extent.TheVariants.{Lines}
 use Rattle.lsp_text.specs.declared.lined.lines.LentLine.{LentLine}
 use Rattle.lsp_text.proofs.Counting.{units-append, units-utf8_text}
-use Rattle.lsp_text.proofs.Cuts.{text_of-append}
-use Rattle.lsp_text.proofs.Denoting.{place_in_line-sound, places_are_denoted}
-use Rattle.lsp_text.proofs.LentPlaces.{IsAround, around, held_utf8, near_in, IsFarLine, far_line}
+use Rattle.lsp_text.proofs.Denoting.{place_in_line-sound}
+use Rattle.lsp_text.proofs.LentPlaces.{IsAround, around, held_utf8, near_in}
 use Rattle.lsp_text.proofs.PlainTexts.{plain_units}
-use Rattle.lsp_text.proofs.Positions.{slice_get-past, slice_get-drop, text_of-lines_of}
-use Rattle.lsp_text.proofs.Widths.{IsFront, is_front}
+use Rattle.lsp_text.proofs.Positions.{slice_get-past, slice_get-drop}
+use Rattle.lsp_text.proofs.Widths.{is_front}
 use Rattle.std.proofs.lemmas.List.{drop_more, drop-take}
 use Rattle.lsp_text.specs.Lines.{open_line}
 
@@ -181,139 +178,16 @@ held_bytes enc bs span first second u a b le =
     ∙ sym (ap (λ (x : Option ℕ). between x (place_of enc (chars bs) span.second) (chars bs)) a.place
     ∙ ap (λ (x : Option ℕ). between (Some (length (chars (take first bs)))) x (chars bs)) b.place)
 
--- the units between two places
-pub units_within : (enc : Encoding) (bs now : List ℕ) (from to before through : ℕ) → IsUtf8 bs
-    → bs ≡ now → CanReplace now from to → before ≡ units enc (chars (take from bs))
-    → through ≡ units enc (chars (take to bs))
-    → through ≡ before + units enc (chars (bytes_between now from to))
-units_within enc bs now from to before through u is can b t =
-    let here : CanReplace bs from to = subst (λ (x : List ℕ). CanReplace x from to) (sym is) can in
-    let k = around bs from to u here.order here.first here.second in
-    let same : chars (bytes_between bs from to) ≡ chars (bytes_between now from to) =
-    ap (λ (x : List ℕ). chars (bytes_between x from to)) is in
-    omega (
-      arith,
-      b,
-      t,
-      ap (units enc) k.chars_to,
-      units-append enc (chars (take from bs)) (chars (bytes_between bs from to)),
-      ap (units enc) same,
-    )
+-- ---- findings
 
--- ---- the columns of one line
-
-no_extent : (width column : ℕ) → extent_of width column ≡ None → column ≤ width
-no_extent width column h =
-    ⊎_elim
-    (λ lt. let some : Some (Units width) ≡ None = sym (cond-true _ _ _ (lt-ltb width column lt)) ∙ h in
-    absurd (cc some))
-    (λ le. le)
-    (cases_lt width column)
-
-cut_at : (a m c : List ℕ) (j : ℕ) → j ≤ length m
-    → take (length a) (a ++ (m ++ c)) ++ take j (drop (length a) (a ++ (m ++ c))) ≡ a ++ take j m
-cut_at a m c j le =
-    ap (λ (x : List ℕ). x ++ take j (drop (length a) (a ++ (m ++ c))))
-    (take_at a (m ++ c) (length a) refl)
-    ∙ ap (λ (x : List ℕ). a ++ x)
-    (ap (take j) (drop_at a (m ++ c) (length a) refl) ∙ take-append-le j m c le)
-
--- a place that is not past the end has as many units before it as its lines and its column
-before_place : (enc : Encoding) (t : List ℕ) (p : Position) (k : ℕ) → place_of enc t p ≡ Some k
-    → text_extent enc t p ≡ None
-    → units enc (take k t) ≡ units enc (text_of (take p.line (lines_of t))) + p.column
-before_place enc t p k at none =
-    let ls = lines_of t in
-    ⊎_elim
-    (λ q.
-    let some : Some (Lines (length ls)) ≡ None =
-    sym (ap (extent_at enc (length ls) p.column) (slice_get-past ls p.line q.0)) ∙ none in
-    absurd (cc some))
-    (λ (q : IsPlaceInLine enc ls p k).
-    let here : drop p.line ls ≡ q.line ∷ q.after =
-    ap (drop p.line) q.lines ∙ drop_at q.before (q.line ∷ q.after) p.line q.number in
-    let front : take p.line ls ≡ q.before =
-    ap (take p.line) q.lines ∙ take_at q.before (q.line ∷ q.after) p.line q.number in
-    let within : p.column ≤ units enc q.line.text =
-    no_extent (units enc q.line.text) p.column
-    (sym (ap (extent_at enc (length ls) p.column) (slice_get-drop ls p.line q.line q.after here))
-    ∙ none) in
-    let column : units enc (take q.offset q.line.text) ≡ p.column =
-    ⊎_elim
-    (λ r. ap (units enc) (take_all q.offset q.line.text (omega (arith, r.1)))
-    ∙ (let e : units enc q.line.text ≡ p.column = omega (arith, r.0) in e))
-    (λ r. r)
-    q.column in
-    let more = q.line.end ++ text_of q.after in
-    let text : t ≡ text_of q.before ++ (q.line.text ++ more) =
-    sym (text_of-lines_of t) ∙ ap text_of q.lines ∙ text_of-append q.before (q.line ∷ q.after)
-    ∙ ap (λ (x : List ℕ). text_of q.before ++ x)
-    (append_assoc q.line.text q.line.end (text_of q.after)) in
-    let cut : take k t ≡ text_of q.before ++ take q.offset q.line.text =
-    ap (take k) text ∙ ap (λ (n : ℕ). take n (text_of q.before ++ (q.line.text ++ more))) q.place
-    ∙ take-add (length (text_of q.before)) q.offset (text_of q.before ++ (q.line.text ++ more))
-    ∙ cut_at (text_of q.before) q.line.text more q.offset q.within in
-    ap (units enc) cut ∙ units-append enc (text_of q.before) (take q.offset q.line.text)
-    ∙ (let e : units enc (text_of q.before) + units enc (take q.offset q.line.text)
-    ≡ units enc (text_of q.before) + p.column = omega (arith, column) in e)
-    ∙ ap (λ (x : List Line). units enc (text_of x) + p.column) (sym front))
-    ((places_are_denoted enc t p k).0 at)
-
--- on one line, the units of a span are the difference of its columns
-pub line_width : (enc : Encoding) (bs : List ℕ) (span : Span) (first second : ℕ) → IsUtf8 bs
-    → IsTextOffset enc bs span.first first → IsTextOffset enc bs span.second second
-    → first ≤ second → span.first.line ≡ span.second.line
-    → text_extent enc (chars bs) span.first ≡ None → text_extent enc (chars bs) span.second ≡ None
-    → span.second.column ≡ span.first.column + units enc (held_by enc (chars bs) span)
-line_width enc bs span first second u a b le line no_first no_second =
-    let can = can_replace enc bs span first second a b le in
-    let whole = units_within enc bs bs first second _ _ u refl can refl refl in
-    let f = is_front bs first u a.boundary in
-    let s = is_front bs second u b.boundary in
-    let x = before_place enc (chars bs) span.first (length (chars (take first bs))) a.place no_first in
-    let y = before_place enc (chars bs) span.second (length (chars (take second bs))) b.place no_second in
-    let ls = lines_of (chars bs) in
-    omega (
-      arith,
-      whole,
-      ap (units enc) f.front,
-      ap (units enc) s.front,
-      x,
-      y,
-      ap (λ (n : ℕ). units enc (text_of (take n ls))) line,
-      ap (units enc) (held_bytes enc bs span first second u a b le),
-    )
-
-no_findings : (x : Option PastEnd) (y : Option OtherLength) → x ≡ None → y ≡ None
-    → (let f : Findings = record { past_end = x; range_length = y } in f) ≡ nothing
-no_findings x y e f =
-    ap (λ z. let g : Findings = record { past_end = z; range_length = y } in g) e
-    ∙ ap (λ z. let g : Findings = record { past_end = None; range_length = z } in g) f
-
-fits_length : (enc : Encoding) (t : List ℕ) (span : Span) (sent : Option ℤ) → FitsLine span sent
-    → (span.first.line ≡ span.second.line
-    → span.second.column ≡ span.first.column + units enc t)
-    → length_of enc t sent ≡ None
-fits_length enc t span None fits sum = refl
-fits_length enc t span (Some n) fits sum =
-    let all = sum fits.0 in
-    let width : units enc t ≡ span.second.column - span.first.column = omega (arith, all) in
-    cond-true _ _ _ (ap (λ (w : ℕ). int_eq n (pos w)) width ∙ fits.1.1)
-
--- where both positions are in the text, and the columns give the length that is sent
-pub nothing_found : (enc : Encoding) (bs : List ℕ) (span : Span) (first second : ℕ)
-    (sent : Option ℤ) → IsUtf8 bs
-    → IsTextOffset enc bs span.first first → IsTextOffset enc bs span.second second
-    → first ≤ second → text_extent enc (chars bs) span.first ≡ None
-    → text_extent enc (chars bs) span.second ≡ None → FitsLine span sent
-    → found_in enc (chars bs) span sent ≡ nothing
-nothing_found enc bs span first second sent u a b le no_first no_second fits =
-    no_findings (past_of enc (chars bs) span) (length_of enc (held_by enc (chars bs) span) sent)
-    (ap (λ x. option_or (past_by span.first x)
-    (past_by span.second (text_extent enc (chars bs) span.second))) no_first
-    ∙ ap (λ x. past_by span.second x) no_second)
-    (fits_length enc (held_by enc (chars bs) span) span sent fits
-    (λ line. line_width enc bs span first second u a b le line no_first no_second))
+-- the position past the end
+pub past_found : (enc : Encoding) (t : List ℕ) (span : Span) (x y : Option Extent)
+    (past : Option PastEnd) → x ≡ text_extent enc t span.first → y ≡ text_extent enc t span.second
+    → past ≡ option_or (past_by span.first x) (past_by span.second y) → past ≡ past_of enc t span
+past_found enc t span x y past e f p =
+    p ∙ ap (λ v. option_or (past_by span.first v) (past_by span.second y)) e
+    ∙ ap (λ v. option_or (past_by span.first (text_extent enc t span.first))
+    (past_by span.second v)) f
 
 -- all that the replacement of a span finds
 pub all_found : (enc : Encoding) (bs : List ℕ) (span : Span) (first second : ℕ) (sent : Option ℤ)
@@ -328,9 +202,7 @@ pub all_found : (enc : Encoding) (bs : List ℕ) (span : Span) (first second : �
     ≡ found_in enc (chars bs) span sent
 all_found enc bs span first second sent x y past other u a b le e f p o =
     ap (λ z. let g : Findings = record { past_end = z; range_length = other } in g)
-    (p ∙ ap (λ v. option_or (past_by span.first v) (past_by span.second y)) e
-    ∙ ap (λ v. option_or (past_by span.first (text_extent enc (chars bs) span.first))
-    (past_by span.second v)) f)
+    (past_found enc (chars bs) span x y past e f p)
     ∙ ap (λ z. let g : Findings = record {
       past_end = past_of enc (chars bs) span;
       range_length = z;

@@ -1,6 +1,6 @@
 -- What of a change does not fit the text that it is made in: a position past the end, and a range's
 -- length that is not that of the text in the range. No rule refuses either.
-use Rattle.std.specs.Prelude.{◌≡◌, ◌≤◌, ◌-◌, true, ℕ, ℤ, pos, nat_lt, List, [], ◌∷◌, ◌++◌, if◌then◌else◌, length}
+use Rattle.std.specs.Prelude.{ℕ, ℤ, pos, nat_lt, List, [], ◌∷◌, ◌++◌, if◌then◌else◌, length}
 use Rattle.std.specs.Prelude.{slice_range, slice_get, Option, Some, None, Result, Ok, Err}
 use Rattle.std.specs.Option.{option_or, option_and_then}
 use Rattle.std.specs.Ordering.{int_eq}
@@ -69,14 +69,6 @@ other_length enc t sent =
 
 abbrev pub length_of : Encoding → List ℕ → Option ℤ → Option OtherLength
 length_of enc t sent = option_and_then (other_length enc t) sent
-
--- no length is sent for a span, or it is on one line and the difference of its columns is sent
-abbrev pub FitsLine : Span → Option ℤ → Type 0
-FitsLine span None = Unit {0}
-FitsLine span (Some sent) =
-    (span.first.line ≡ span.second.line)
-    × ((span.first.column ≤ span.second.column)
-    × (int_eq sent (pos (span.second.column - span.first.column)) ≡ true))
 
 -- ---- changes
 

@@ -1,6 +1,7 @@
 -- How much a text is, by its bytes.
-use Rattle.std.specs.Prelude.{◌≤◌, ◌+◌, ◌-◌, ℕ, List, length}
+use Rattle.std.specs.Prelude.{◌≡◌, ◌≤◌, ◌+◌, ◌-◌, ℕ, List, length}
 use Rattle.std.specs.Str.{chars}
+use Rattle.lsp_types.specs.declared.position.Encoding.{Encoding}
 use Rattle.lsp_types.specs.declared.position.Encoding.TheVariants.{Utf8, Utf16, Utf32}
 use Rattle.lsp_text.specs.Places.{units}
 use Rattle.lsp_text.specs.Ends.{ends_in}
@@ -41,3 +42,10 @@ pub record AreAtMost (s : Sums) (n : ℕ) : Type 0 where
   pub bytes : s.bytes ≤ n
   pub chars : s.chars ≤ n
   pub utf16 : s.utf16 ≤ n
+
+-- the units of a text in each encoding, before and after some of its characters were exchanged for
+-- others: those of the characters that stayed, and of these
+pub record IsExchange (old new : Sums) (removed inserted : List ℕ) : Type 0 where
+  pub stayed : List ℕ
+  pub old_is : (enc : Encoding) → amount_in (Units enc) old ≡ units enc stayed + units enc removed
+  pub new_is : (enc : Encoding) → amount_in (Units enc) new ≡ units enc stayed + units enc inserted

@@ -30,7 +30,7 @@ pub fn change<S: TextStore>(
     change_noting(store, encoding, span, None, text, limit, found)
 }
 
-/// The same, which notes what of the change does not fit the text.
+/// The same, which notes what of the change does not fit the text, if it is made.
 pub fn change_noting<S: TextStore>(
     store: &mut S,
     encoding: Encoding,
@@ -42,6 +42,7 @@ pub fn change_noting<S: TextStore>(
 ) -> Result<(), Fault>
     ensures found { OnOk result (found.new
         ≡ noted found.old (found_of encoding (S.content store.old) span range_length)) }
+    ensures err_found { OnErr result (found.new ≡ found.old) }
     ensures ok { OnOk result (changed encoding (S.content store.old) span (chars text.now) limit
         ≡ Ok (S.content store.new)) }
     ensures fault { IfErr result

@@ -1,34 +1,30 @@
 //! Edits of kept lines, which see no held bytes but those of lines that `Lines::read` lent.
 
-ghost use Rattle.std.specs.Prelude.{◌≡◌, ◌<◌, ◌≤◌, ◌+◌, ◌*◌, ◌^◌, Ok, None, length, MatchOption};
-ghost use Rattle.std.specs.Prelude.{OnOk, OnErr, IfErr, IfSome, IsTrue, ◌↔◌};
-ghost use Rattle.std.specs.Str.{chars, IsUtf8};
+ghost use Rattle.std.specs.Prelude.{◌≡◌, ◌<◌, ◌+◌, ◌*◌, ◌^◌, Ok, None, length, MatchOption};
+ghost use Rattle.std.specs.Prelude.{IfOk, OnOk, OnErr, IfErr, IfSome, IsTrue, ◌↔◌};
+ghost use Rattle.std.specs.Str.{chars};
 ghost use Rattle.lsp_text.specs.Places.{place_of};
 ghost use Rattle.lsp_text.specs.Offsets.{IsTextOffset};
 ghost use Rattle.lsp_text.specs.Edits.{replaced, IsFaultOf};
 ghost use Rattle.lsp_text.specs.LentLines.{IsLentLine};
-ghost use Rattle.lsp_text.specs.Parts.{CanReplace, bytes_between};
-ghost use Rattle.lsp_text.specs.Findings.{noted, found_in, text_extent, length_of};
-ghost use Rattle.lsp_text.specs.Findings.{FitsLine};
+ghost use Rattle.lsp_text.specs.Findings.{text_extent, past_of};
 ghost use Rattle.lsp_text.specs.Steps.{raised, RisesWithin, line_bytes, line_number, touched};
 
-use crate::findings::{Extent, Findings, OtherLength, is_length, past_end_of};
+use crate::findings::{Extent, PastEnd, past_end_of};
 use crate::lined::lines::{LentLine, Lines, Steps};
 use lsp_types::{Encoding, Fault, Position, Span, rules};
 
 /// Replaces what the span holds: 605, then 606, then 607 where the result is over the limit.
+/// Answers which of its positions lies past the end, if one does.
 pub(crate) fn edit(
     lines: &mut Lines,
     steps: &mut Steps,
     encoding: Encoding,
     span: Span,
-    range_length: Option<i32>,
     text: &str,
     limit: u64,
-    found: &mut Findings,
-) -> Result<(), Fault>
-    ensures found { OnOk result (found.new
-        ≡ noted found.old (found_in encoding (chars lines.old) span range_length)) }
+) -> Result<Option<PastEnd>, Fault>
+    ensures past { IfOk result (λ past. past ≡ past_of encoding (chars lines.old) span) }
     ensures ok { OnOk result (replaced encoding (chars lines.old) span (chars text.now) limit
         ≡ Ok (chars lines.new)) }
     ensures fault { IfErr result
@@ -61,10 +57,9 @@ pub(crate) fn edit(
     ) {
         return Err(Fault::Rule(rules::DOCUMENT_OVER_LIMIT));
     }
-    note(lines, encoding, span, first, second, range_length, found);
     lines.replace(first.offset, second.offset, text)?;
     steps.add(text.len());
-    Ok(())
+    Ok(past_end_of(span, first.extent, second.extent))
 }
 
 /// Lends the line that a position falls in, and counts its bytes.
@@ -139,110 +134,6 @@ fn find_second(
     }
     let other = read_at(lines, span.second, steps);
     find_in(lines, &other, encoding, span.second)
-}
-
-/// Notes what the replacement of a span finds: mostly nothing.
-#[inline(always)]
-fn note(
-    lines: &Lines,
-    encoding: Encoding,
-    span: Span,
-    first: Spotted,
-    second: Spotted,
-    range_length: Option<i32>,
-    found: &mut Findings,
-)
-    requires first { IsTextOffset encoding lines.now span.first first.offset }
-    requires second { IsTextOffset encoding lines.now span.second second.offset }
-    requires first_extent { first.extent ≡ text_extent encoding (chars lines.now) span.first }
-    requires second_extent { second.extent ≡ text_extent encoding (chars lines.now) span.second }
-    requires order { first.offset ≤ second.offset }
-    requires utf8 { IsUtf8 lines.now }
-    ensures { found.new
-        ≡ noted found.old (found_in encoding (chars lines.now) span range_length) }
-{
-    if is_quiet(span, first, second, range_length) {
-        return;
-    }
-    note_all(lines, encoding, span, first, second, range_length, found);
-}
-
-/// Whether nothing is found, as is told at once of a span on one line.
-#[inline(always)]
-fn is_quiet(span: Span, first: Spotted, second: Spotted, range_length: Option<i32>) -> bool
-    ensures first { IsTrue result → first.extent ≡ None }
-    ensures second { IsTrue result → second.extent ≡ None }
-    ensures length { IsTrue result → FitsLine span range_length }
-{
-    first.extent.is_none() && second.extent.is_none() && fits_line(span, range_length)
-}
-
-/// Whether the columns of a span on one line give the length that is sent, if one is.
-#[inline(always)]
-fn fits_line(span: Span, range_length: Option<i32>) -> bool
-    ensures { IsTrue result → FitsLine span range_length }
-{
-    let Some(sent) = range_length else {
-        return true;
-    };
-    if span.first.line != span.second.line {
-        return false;
-    }
-    if span.second.column < span.first.column {
-        return false;
-    }
-    is_length(sent, u64::from(span.second.column - span.first.column))
-}
-
-/// Notes what the replacement of a span finds.
-#[cold]
-#[inline(never)]
-fn note_all(
-    lines: &Lines,
-    encoding: Encoding,
-    span: Span,
-    first: Spotted,
-    second: Spotted,
-    range_length: Option<i32>,
-    found: &mut Findings,
-)
-    requires first { IsTextOffset encoding lines.now span.first first.offset }
-    requires second { IsTextOffset encoding lines.now span.second second.offset }
-    requires first_extent { first.extent ≡ text_extent encoding (chars lines.now) span.first }
-    requires second_extent { second.extent ≡ text_extent encoding (chars lines.now) span.second }
-    requires order { first.offset ≤ second.offset }
-    requires utf8 { IsUtf8 lines.now }
-    ensures { found.new
-        ≡ noted found.old (found_in encoding (chars lines.now) span range_length) }
-{
-    let length = length_in(lines, encoding, first.offset, second.offset, range_length);
-    found.note(Findings {
-        past_end: past_end_of(span, first.extent, second.extent),
-        range_length: length,
-    });
-}
-
-/// The length that is sent, where it is not that of the text between two places.
-fn length_in(
-    lines: &Lines,
-    encoding: Encoding,
-    from: usize,
-    to: usize,
-    sent: Option<i32>,
-) -> Option<OtherLength>
-    requires { CanReplace lines.now from to }
-    ensures { result ≡ length_of encoding (chars (bytes_between lines.now from to)) sent }
-{
-    let sent = sent?;
-    if is_length(sent, lines.units_between(encoding, from, to)) {
-        return None;
-    }
-    Some(OtherLength {
-        sent,
-        utf8: lines.units_between(Encoding::Utf8, from, to),
-        utf16: lines.units_between(Encoding::Utf16, from, to),
-        utf32: lines.units_between(Encoding::Utf32, from, to),
-    })
 }
 
 /// Whether the bytes of a text and of an insertion are over the limit.

@@ -44,7 +44,7 @@ ghost use Rattle.lsp_text.specs.Steps.{RisesWithin, touched};
 ghost use Rattle.lsp_text.specs.Findings.{noted, found_in};
 
 use crate::edit::{edit, find_in, read_at};
-use crate::findings::Findings;
+use crate::findings::{Findings, length_other_than_removed};
 use crate::store::{Place, TextStore};
 use lines::{Lines, Steps};
 use lsp_types::{Encoding, Fault, Memory, Position, Span, rules};
@@ -136,6 +136,7 @@ impl TextStore for Lined {
     ) -> Result<(), Fault>
         ensures found { OnOk result (found.new
             ≡ noted found.old (found_in encoding self.old.content span range_length)) }
+        ensures err_found { OnErr result (found.new ≡ found.old) }
         ensures ok { OnOk result (replaced encoding self.old.content span (chars text.now) limit
             ≡ Ok self.new.content) }
         ensures fault { IfErr result
@@ -150,16 +151,27 @@ impl TextStore for Lined {
             (RisesWithin self.old.steps self.new.steps 0
             (4 * touched self.old.content span (chars text.now))) }
     {
-        edit(
+        let sums = self.lines.sums();
+        let past_end = edit(
             &mut self.lines,
             &mut self.steps,
             encoding,
             span,
-            range_length,
             text,
             limit,
-            found,
-        )
+        )?;
+        let range_length = length_other_than_removed(
+            sums,
+            self.lines.sums(),
+            text,
+            encoding,
+            range_length,
+        );
+        found.note(Findings {
+            past_end,
+            range_length,
+        });
+        Ok(())
     }
 
     fn replace_all(&mut self, text: &str, limit: u64) -> Result<(), Fault>

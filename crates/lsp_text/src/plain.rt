@@ -78,8 +78,9 @@ impl TextStore for Plain {
         }
         let (front, _) = held.split_at(second);
         let (_, range) = front.split_at(first);
-        found.note(found_in_text(held, range, encoding, span, range_length));
+        let more = found_in_text(held, range, encoding, span, range_length);
         self.text.replace_range(first..second, text)?;
+        found.note(more);
         Ok(())
     }
 

@@ -59,7 +59,7 @@ pub trait TextStore: Drop {
     }
 
     /// The same, which notes a position past the end, and a length that is not that of the text in
-    /// the span.
+    /// the span. A refused call notes nothing.
     fn replace_noting(
         &mut self,
         encoding: Encoding,
@@ -71,6 +71,7 @@ pub trait TextStore: Drop {
     ) -> Result<(), Fault>
         ensures found { OnOk result (found.new
             ≡ noted found.old (found_in encoding (content self.old) span range_length)) }
+        ensures err_found { OnErr result (found.new ≡ found.old) }
         ensures ok { OnOk result (replaced encoding (content self.old) span (chars text.now) limit
             ≡ Ok (content self.new)) }
         ensures fault { IfErr result

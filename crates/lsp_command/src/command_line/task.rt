@@ -5,7 +5,7 @@ ghost use Rattle.lsp_command.specs.Words.{limits_by};
 
 use lsp_explain::ComparedText;
 use lsp_frame::Limits;
-use lsp_json_run::Form;
+use lsp_replay::Form;
 use lsp_types::LineEnds;
 use lsp_verdict::{Completeness, Lines, Listing, Mode};
 use std::num::NonZeroU64;

@@ -1,21 +1,20 @@
 //! What the words of the command line ask for.
 ghost use Rattle.std.specs.Prelude.{◌≡◌, IfErr, IfOk, codes, map, option_map, string_bytes};
 ghost use Rattle.clap.specs.Words.{App, all_of, one_of, subcommand_rows_of};
-ghost use Rattle.lsp_command.specs.CommandLine.{IsCommandLine};
+ghost use Rattle.lsp_words.specs.CommandLine.{IsCommandLine};
 ghost use Rattle.lsp_command.specs.Words.{Asks, AsksBoth, HasTask, IsFlag, NumberIn, Refuses, RequestIn};
 ghost use Rattle.lsp_command.specs.Words.{TaskIn, report_of, compared_of, completeness_of};
 ghost use Rattle.lsp_command.specs.Words.{explanation_of, extent_of, file_of, form_of, inputs_of};
 ghost use Rattle.lsp_command.specs.Words.{line_ends_of, lines_of};
 ghost use Rattle.lsp_command.specs.Words.{listing_of, mode_of, rows_in};
 
-use crate::command_line::commands::command_line;
 use crate::command_line::task::{Explanation, Extent, Report, Request, Rewrite, Task};
-use clap::error::ErrorKind;
 use clap::{ArgMatches, Error};
 use lsp_explain::ComparedText;
-use lsp_json_run::Form;
+use lsp_replay::Form;
 use lsp_types::LineEnds;
 use lsp_verdict::{Completeness, Lines, Listing, Mode};
+use lsp_words::{command_required, found_in};
 use std::alloc::{AllocError, Global};
 use std::num::NonZeroU64;
 
@@ -293,11 +292,10 @@ pub fn request_of<'a>(alloc: Global, words: &'a [String]) -> Result<Request<'a>,
     ensures err { IfErr result (λ error.
         (app : App) × IsCommandLine app × Refuses app (map string_bytes words.entry.now) error) }
 {
-    let mut command = command_line(alloc)?;
-    let matches = command.try_get_matches_from_mut(words)?;
-    let found = request_in(alloc, &matches)?;
-    match found {
+    let found = found_in(alloc, words)?;
+    let requested = request_in(alloc, &found)?;
+    match requested {
         Some(request) => Ok(request),
-        None => Err(command.error(ErrorKind::MissingSubcommand, "a command is required")?),
+        None => Err(command_required(alloc)?),
     }
 }

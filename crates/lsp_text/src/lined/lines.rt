@@ -1,6 +1,6 @@
 //! The lines of a text, and the count of the bytes lent from them.
 
-ghost use Rattle.std.specs.Prelude.{◌≡◌, ◌+◌, ◌<◌, ◌≤◌, ◌-◌, ◌^◌, ◌↔◌, None, length, take, drop};
+ghost use Rattle.std.specs.Prelude.{◌≡◌, ◌+◌, ◌<◌, ◌-◌, ◌↔◌, None, length, take, drop};
 ghost use Rattle.std.specs.Prelude.{MatchOption, IfOk, OnOk, OnErr, IsTrue};
 ghost use Rattle.std.specs.List.{replace_range};
 ghost use Rattle.std.specs.Str.{chars, IsUtf8, IsCharBoundary};
@@ -12,7 +12,8 @@ ghost use Rattle.lsp_text.specs.Places.{units};
 ghost use Rattle.lsp_text.specs.Offsets.{IsAtLine};
 ghost use Rattle.lsp_text.specs.Steps.{raised, line_bytes, line_number};
 ghost use Rattle.lsp_text.specs.Ends.{IsNear};
-ghost use Rattle.lsp_text.specs.Parts.{CanReplace, bytes_between};
+ghost use Rattle.lsp_text.specs.Parts.{CanReplace};
+ghost use Rattle.lsp_text.specs.Sums.{sums_of};
 ghost use Rattle.lsp_text.specs.Findings.{extent_of};
 ghost use Rattle.lsp_text.specs.Windows.{text_with};
 ghost use Rattle.lsp_text.specs.LentLines.{IsLentLine, IsHeldLine, IsEndOf, IsOffsetIn};
@@ -23,7 +24,7 @@ use crate::findings::{Extent, extent_past};
 use crate::lined::window::Windowed;
 use crate::reading::width_of;
 use crate::same::{LinesLeft, is_taken, without_last_end};
-use crate::sums::Measure;
+use crate::sums::{Measure, Sums};
 use crate::walk::{Differs, Front, LinesAhead};
 use lsp_types::{Encoding, Position};
 use std::alloc::{AllocError, Global};
@@ -147,22 +148,20 @@ impl Lines {
         (end.at, end.after)
     }
 
+    /// How large the text is, in each unit.
+    pub(super) fn sums(&self) -> Sums
+        ensures value { result ≡ sums_of self.now }
+        ensures utf8 { IsUtf8 self.now }
+    {
+        self.held.sums
+    }
+
     /// The characters before a place.
     pub(super) fn chars_before(&self, offset: usize) -> u64
         requires { IsCharBoundary self.now offset }
         ensures { result ≡ length (chars (take offset self.now)) }
     {
         self.held.units_before(Encoding::Utf32, offset)
-    }
-
-    /// The units of the text between two places.
-    pub(crate) fn units_between(&self, encoding: Encoding, from: usize, to: usize) -> u64
-        requires { CanReplace self.now from to }
-        ensures { result ≡ units encoding (chars (bytes_between self.now from to)) }
-    {
-        let before = self.held.units_before(encoding, from);
-        let through = self.held.units_before(encoding, to);
-        through - before
     }
 
     /// Whether the lines spell a text.

@@ -1,6 +1,7 @@
 use Rattle.std.proofs.Common.{ℕ, List, length, Result, Ok, arith, ap, sym, ◌∙◌}
 use Rattle.std.specs.Str.{chars}
 use Rattle.lsp_text.proofs.Splices.{replaced-reversed, replaced-over, replaced-within}
+use Rattle.lsp_text.proofs.PastEnds.{past_found}
 use Rattle.lsp_text.proofs.StepCounts.{counted_first, counted_second, counted_all, on_err, within_limit}
 use Rattle.lsp_text.proofs.edit.edit.Goals as goal
 
@@ -53,12 +54,8 @@ pub returns-clause-counted : goal.returns-clause-counted
 returns-clause-counted c =
     counted_all (chars c.args.lines.now) c.args.text.now c.args.span c.args.steps.now c.read_at-line.new.steps c.find_second.new.steps c.add.new.self c.utf8.text c.read_at-line.ensures.counted c.find_second.ensures.counted c.add.ensures
 
-pub note-requires : goal.note-requires
-note-requires c = record {
-  first = c.in-Some.ensures.place;
-  second = c.in-Some-find_second.ensures.place;
-  first_extent = c.in-Some.ensures.extent;
-  second_extent = c.in-Some-find_second.ensures.extent;
-  order = c.if-second-first.false;
-  utf8 = c.byte_len-bytes.ensures.utf8;
-}
+pub returns-clause-past : goal.returns-clause-past
+returns-clause-past c =
+    past_found c.args.encoding (chars c.args.lines.now) c.args.span c.in-Some.first.extent
+    c.in-Some-find_second.second.extent c.past_end_of.result c.in-Some.ensures.extent
+    c.in-Some-find_second.ensures.extent c.past_end_of.ensures

@@ -1,0 +1,83 @@
+-- The text that `explain --by-messages` or `--in-editor` writes is that of the first event that
+-- offends.
+use Rattle.std.specs.Prelude.{unwrap_or}
+use Rattle.std.specs.Option.{option_or}
+use Rattle.std.proofs.Common.{◌≡◌, ◌∙◌, ℕ, List, [], ◌∷◌, ◌++◌, Option, Some, None, ap, refl, sym}
+use Rattle.lsp_docs.specs.Documents.{Terms}
+use Rattle.lsp_frame.specs.Bounds.{Bounds}
+use Rattle.lsp_frame.specs.declared.format.Format.{Format}
+use Rattle.lsp_log.specs.Log.{Record}
+use Rattle.lsp_replay.specs.Run.{IsTold, Tail}
+use Rattle.lsp_replay.specs.Telling.{rule_of}
+use Rattle.lsp_replay.proofs.AllHeard.{first_after, none_is}
+use Rattle.lsp_replay.proofs.Seeing.{events-push}
+use Rattle.lsp_replay.proofs.TextRuns.{is_text}
+use Rattle.lsp_survey.proofs.SurveySteps.{survey_told}
+use Rattle.lsp_verdict.specs.Heard.{Heard, heard_events, notes_of}
+use Rattle.lsp_verdict.specs.LookBack.{first_from, first_of}
+use Rattle.lsp_verdict.specs.Outcome.{ending, log_terms}
+use Rattle.lsp_verdict.specs.Survey as survey
+use Rattle.lsp_verdict.specs.Verdict.{bad_log_of, first_no, summary}
+use Rattle.lsp_verdict.specs.declared.completeness.Completeness.TheVariants.{Ignored}
+use Rattle.lsp_verdict.proofs.Offences.Offending.{all_are_kept}
+use Rattle.lsp_explain.specs.Compared.{AnswersCompared, answer_after, answer_at, answer_behind}
+use Rattle.lsp_explain.specs.Compared.{sound_answer}
+use Rattle.lsp_explain.specs.ExplainLaws.{ComparedTextIsOfSurvey}
+use Rattle.lsp_explain.specs.declared.compared.ComparedText.{ComparedText}
+use Rattle.lsp_explain.proofs.Comparing.{answer_is}
+
+-- ---- the first event that offends
+
+module _ (which : ComparedText) (terms : Terms) where
+  -- up to it all events are kept
+  answer_from : (before hs : List Heard) → first_no terms (heard_events before) ≡ None
+      → first_from (answer_at which terms) (heard_events before) (heard_events hs)
+      ≡ first_from (answer_after which terms) before hs
+  answer_from before [] clean = refl
+  answer_from before (h ∷ hs) clean =
+      ap (λ es. option_or (answer_at which terms es h.note.event)
+      (first_from (answer_at which terms) (heard_events before ++ h.note.event ∷ [])
+      (heard_events hs))) (sym (all_are_kept terms (heard_events before) clean))
+      ∙ ap (λ es. option_or (answer_after which terms before h)
+      (first_from (answer_at which terms) es (heard_events hs))) (sym (events-push before h))
+      ∙ by_rule (λ kept. answer_from (before ++ h ∷ []) hs
+      (first_after terms before h clean ∙ none_is terms before h kept)) (rule_of terms before h) refl
+    where
+      by_rule : (rule_of terms before h ≡ None
+          → first_from (answer_at which terms) (heard_events (before ++ h ∷ [])) (heard_events hs)
+          ≡ first_from (answer_after which terms) (before ++ h ∷ []) hs)
+          → (o : Option ℕ) → rule_of terms before h ≡ o
+          → option_or (answer_after which terms before h)
+          (first_from (answer_at which terms) (heard_events (before ++ h ∷ [])) (heard_events hs))
+          ≡ option_or (answer_after which terms before h)
+          (first_from (answer_after which terms) (before ++ h ∷ []) hs)
+      by_rule later (Some rule) is =
+          let named = answer_is which terms before h (Some rule) is in
+          ap (λ o. option_or o (first_from (answer_at which terms)
+          (heard_events (before ++ h ∷ [])) (heard_events hs))) named
+          ∙ sym (ap (λ o. option_or o (first_from (answer_after which terms) (before ++ h ∷ []) hs))
+          named)
+      by_rule later None is = ap (option_or (answer_after which terms before h)) (later is)
+
+-- the answer on a log that was told
+compared_told : (which : ComparedText) (limits : Bounds) (log : List ℕ)
+    (format : Option Format) (records : List Record) (heard : List Heard) (tail : Tail)
+    → IsTold limits log format records heard tail
+    → AnswersCompared which limits log
+    (unwrap_or (first_of (answer_after which (log_terms limits format)) heard)
+    (answer_behind (log_terms limits format) heard tail))
+unfolding survey_told
+compared_told which limits log format records heard tail told = (
+  survey.found_in Ignored (log_terms limits format) (notes_of heard)
+      (ending tail.fault tail.rests.editor tail.rests.server),
+  bad_log_of tail.fault,
+  summary (log_terms limits format) (heard_events heard),
+  survey_told Ignored limits log format records heard tail told,
+  sym (ap (λ o. unwrap_or o (sound_answer (bad_log_of tail.fault)))
+      (answer_from which (log_terms limits format) [] heard refl)),
+)
+
+pub compared_text_is_of_survey : ComparedTextIsOfSurvey
+compared_text_is_of_survey which limits log out outcome p =
+    is_text (answer_after which) answer_behind limits (AnswersCompared which limits)
+    (compared_told which limits) log out outcome p

@@ -1,5 +1,0 @@
-use Rattle.lsp_judge.proofs.Told.{one_shown}
-use Rattle.lsp_judge.proofs.show_laws.one_shown.Goals as goal
-
-pub returns : goal.returns
-returns c = one_shown

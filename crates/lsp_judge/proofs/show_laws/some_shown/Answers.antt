@@ -1,5 +1,0 @@
-use Rattle.lsp_judge.proofs.Told.{some_shown}
-use Rattle.lsp_judge.proofs.show_laws.some_shown.Goals as goal
-
-pub returns : goal.returns
-returns c = some_shown
