@@ -2,14 +2,14 @@
 use Rattle.std.specs.Prelude.{◌||◌, MatchOption, get_or, int_lt, is_none, is_some, nat_lt, not}
 use Rattle.std.specs.Borrow.{Bor}
 use Rattle.std.specs.Prelude.{if◌then◌else◌, Result, Ok, Err, option_map, option_to_list, ℤ}
-use Rattle.std.specs.List.{cons_option, find, insert, prefix_len}
+use Rattle.std.specs.List.{cons_option, find}
 use Rattle.std.specs.Option.{option_or}
 use Rattle.std.specs.Str.{chars}
 use Rattle.std.proofs.Common.{◌≡◌, ◌<◌, ◌+◌, ℕ, Bool, true, false, List, [], ◌∷◌, ◌++◌, Option, Some}
 use Rattle.std.proofs.Common.{None, refl, sym, ap, ◌∙◌, append-nil, append_assoc, arith}
 use Rattle.std.proofs.Common.{cond, drop, length, suc, take, zero}
 use Rattle.std.proofs.lemmas.Bool.Decides.{nat_tests}
-use Rattle.std.proofs.lemmas.List.{drop-map, drop_more, map-append, take-append-drop, take-map}
+use Rattle.std.proofs.lemmas.List.{drop_more, map-append, take-append-drop}
 use Rattle.std.proofs.lemmas.List.Elements.{filter-append, filter_map-append}
 use Rattle.serde_json.specs.View.{items_view}
 use Rattle.serde_json.specs.declared.value.Value.{Value}
@@ -21,18 +21,17 @@ use Rattle.lsp_types.specs.declared.position.Encoding.{Encoding}
 use Rattle.lsp_types.specs.declared.position.Encoding.TheVariants.{Utf8}
 use Rattle.lsp_types.specs.declared.position.Position.{Position}
 use Rattle.lsp_types.specs.declared.rules.TheConstants as rules
-use Rattle.lsp_text.specs.Changes.{edit_of, edits_of}
+use Rattle.lsp_text.specs.Changes.{edits_of}
 use Rattle.lsp_text.specs.Counted.{Counted}
-use Rattle.lsp_text.specs.Edits.{Edit, limited, replaced, spliced}
+use Rattle.lsp_text.specs.Edits.{limited, replaced, spliced}
 use Rattle.lsp_text.specs.Findings.{past_by, past_of, text_extent}
 use Rattle.lsp_text.specs.Places.{place_of, units}
 use Rattle.lsp_text.specs.declared.findings.PastEnd.{PastEnd}
-use Rattle.lsp_explain.specs.LateEdits.{are_held, most_size, placed, precedes}
+use Rattle.lsp_explain.specs.LateEdits.{are_held, most_size}
 use Rattle.lsp_explain.specs.SentEdits.{edits_size}
 use Rattle.lsp_explain.specs.TextEdits.{count_of}
 use Rattle.lsp_explain.specs.TextsSince.{contents, is_outside, is_past, not_below, numbers_of}
 use Rattle.lsp_explain.specs.TextsSince.{texts_at, texts_in}
-use Rattle.lsp_explain.proofs.Fitting.{prefix_len-map}
 
 -- ---- edits, as they are listed
 
@@ -120,23 +119,6 @@ outside_refused enc t p rule r is refused = by_place (is_none (place_of enc t p)
         let made : Ok t ≡ Err rule =
         sym (ap (λ (b : Bool). if b then Err rules.POSITION_INSIDE_CHARACTER else Ok t) some)
         ∙ sym is ∙ refused in absurd (cc made)
-
--- ---- edits from the last to the first
-
--- one more
-pub placed-view : (done : List Change) (one : Change) (n : ℕ)
-    → n ≡ prefix_len (λ (c : Change). precedes one.span c.span) done
-    → edits_of (insert done n one) ≡ placed (edits_of done) (edit_of one)
-placed-view done one n is =
-    let test = λ (e : Edit). precedes one.span e.span in
-    insert-view n ∙ ap (λ k. insert (edits_of done) k (edit_of one))
-    (is ∙ sym (prefix_len-map edit_of test done))
-  where
-    insert-view : (k : ℕ) → edits_of (insert done k one)
-        ≡ insert (edits_of done) k (edit_of one)
-    insert-view k =
-        map-append edit_of (take k done) (one ∷ drop k done)
-        ∙ (λ j. sym (take-map edit_of k done) j ++ edit_of one ∷ sym (drop-map edit_of k done) j)
 
 -- ---- those that are small enough
 

@@ -1,21 +1,19 @@
 -- Which edits were made in a text that had changed since they were asked for, as the code has it.
 use Rattle.std.specs.Prelude.{◌&&◌, if◌then◌else◌, not, option_and_then}
-use Rattle.std.specs.Result.{result_ok}
-use Rattle.std.specs.Str.{bytes_eq}
 use Rattle.std.proofs.Common.{◌≡◌, ℕ, ℤ, Bool, true, false, List, Option, Some, None, refl, sym, ap}
 use Rattle.std.proofs.Common.{◌∙◌}
-use Rattle.std.specs.Prelude.{Result, Ok, Err}
 use Rattle.lsp_docs.specs.Calls.{Bytes, Call, Text}
 use Rattle.lsp_docs.specs.Documents.{Terms, held}
 use Rattle.lsp_docs.specs.Snapshots.{kept}
 use Rattle.lsp_replay.specs.declared.heard.EventPlace.{EventPlace}
-use Rattle.lsp_text.specs.Edits.{Edit, applied}
+use Rattle.lsp_text.specs.Edits.{Edit}
 use Rattle.lsp_types.specs.declared.position.Encoding.{Encoding}
 use Rattle.lsp_verdict.specs.Event.{Event}
 use Rattle.lsp_explain.specs.History.{last_that}
-use Rattle.lsp_explain.specs.LateEdits.{LateAnswer, are_held, backwards, has_changed, if_late}
-use Rattle.lsp_explain.specs.LateEdits.{is_since, is_text, late_answer, late_words, made_late, makes}
-use Rattle.lsp_explain.specs.LateEdits.{makes_late, words_if_late, words_since}
+use Rattle.lsp_explain.specs.AtOnce.{makes}
+use Rattle.lsp_explain.specs.LateEdits.{LateAnswer, are_held, has_changed, if_late, is_since}
+use Rattle.lsp_explain.specs.LateEdits.{late_answer, late_words, made_late, makes_late}
+use Rattle.lsp_explain.specs.LateEdits.{words_if_late, words_since}
 use Rattle.lsp_explain.specs.Marking.{last_setter, recent, steps}
 use Rattle.lsp_explain.specs.Openings.{closing_of, closings}
 use Rattle.lsp_explain.specs.ServerEdits.{if_unsent}
@@ -24,38 +22,27 @@ use Rattle.lsp_explain.specs.Unsent.{is_never, is_unsent, is_unset, unsent_words
 use Rattle.lsp_explain.specs.declared.trail.mark.VersionEvent.{VersionEvent}
 use Rattle.lsp_explain.specs.declared.trail.openings.Closing.{Closing}
 
--- ---- a text that edits make
-
-module _ (limit : ℕ) (enc : Encoding) (edits : List Edit) (now t : Text) where
-  pub makes_so : (u : Text) → applied limit enc t edits ≡ Ok u
-      → bytes_eq u now ≡ makes limit enc edits now t
-  makes_so u is = sym (ap (λ (r : Result Text ℕ). is_text now (result_ok r)) is)
-
-  pub makes_none : (rule : ℕ) → applied limit enc t edits ≡ Err rule
-      → false ≡ makes limit enc edits now t
-  makes_none rule is = sym (ap (λ (r : Result Text ℕ). is_text now (result_ok r)) is)
-
 -- ---- of the newer text, and not of the older one
 
-module _ (limit : ℕ) (enc : Encoding) (edits : List Edit) (older newer now : Option Text) where
-  pub no_older : None ≡ older → false ≡ makes_late limit enc edits older newer now
-  no_older is = ap (λ (o : Option Text). makes_late limit enc edits o newer now) is
+module _ (enc : Encoding) (edits : List Edit) (older newer now : Option Text) where
+  pub no_older : None ≡ older → false ≡ makes_late enc edits older newer now
+  no_older is = ap (λ (o : Option Text). makes_late enc edits o newer now) is
 
   module _ (a b t : Text) (has : Some a ≡ older) (also : Some b ≡ newer) (is : Some t ≡ now) where
-    so : (makes limit enc edits t b && not (makes limit enc edits t a))
-        ≡ makes_late limit enc edits older newer now
-    so = λ i. makes_late limit enc edits (has i) (also i) (is i)
+    so : (makes enc edits t b && not (makes enc edits t a))
+        ≡ makes_late enc edits older newer now
+    so = λ i. makes_late enc edits (has i) (also i) (is i)
 
-    pub made_not : makes limit enc edits t b ≡ false
-        → false ≡ makes_late limit enc edits older newer now
-    made_not none = sym (ap (λ (x : Bool). x && not (makes limit enc edits t a)) none) ∙ so
+    pub made_not : makes enc edits t b ≡ false
+        → false ≡ makes_late enc edits older newer now
+    made_not none = sym (ap (λ (x : Bool). x && not (makes enc edits t a)) none) ∙ so
 
-    pub made_newer : (m : Bool) → makes limit enc edits t b ≡ true
-        → m ≡ makes limit enc edits t a
-        → not m ≡ makes_late limit enc edits older newer now
+    pub made_newer : (m : Bool) → makes enc edits t b ≡ true
+        → m ≡ makes enc edits t a
+        → not m ≡ makes_late enc edits older newer now
     made_newer m of_newer of_older =
         ap not of_older
-        ∙ sym (ap (λ (x : Bool). x && not (makes limit enc edits t a)) of_newer) ∙ so
+        ∙ sym (ap (λ (x : Bool). x && not (makes enc edits t a)) of_newer) ∙ so
 
 -- ---- the words of a note
 
@@ -63,8 +50,8 @@ module _ (terms : Terms) (made : List Call) (uri : Bytes) (enc : Encoding)
     (setters : List VersionEvent) where
   module _ (setter : VersionEvent) (a : LateAnswer) (newer : ℤ) (own : setter.version ≡ newer) where
     abbrev so_late : ℤ → ℤ → Bool
-    so_late older number = made_late terms.limit enc a.edits older number (kept terms uri made)
-        (held terms uri made)
+    so_late older number =
+        made_late enc a.edits older number (kept terms uri made) (held terms uri made)
 
     -- the version at the request is not known
     pub words_unknown : None ≡ version_at a.asked setters
@@ -116,7 +103,7 @@ module _ (terms : Terms) (made : List Call) (uri : Bytes) (enc : Encoding)
 module _ (uri : List ℕ) (asked answered : EventPlace) (texts : List Text) (edits : List Edit) where
   abbrev answer_by : Bool → Bool → Option LateAnswer
   answer_by changed held =
-      if changed && held then Some (late_answer uri asked answered (backwards edits)) else None
+      if changed && held then Some (late_answer uri asked answered edits) else None
 
   pub not_changed : has_changed texts ≡ false → if_late uri asked answered texts edits ≡ None
   not_changed is = ap (λ b. answer_by b (are_held edits)) is
@@ -130,7 +117,7 @@ module _ (uri : List ℕ) (asked answered : EventPlace) (texts : List Text) (edi
 
   pub is_late : has_changed texts ≡ true → are_held edits ≡ true
       → if_late uri asked answered texts edits
-      ≡ Some (late_answer uri asked answered (backwards edits))
+      ≡ Some (late_answer uri asked answered edits)
   is_late changed held = λ i. answer_by (changed i) (held i)
 
 -- ---- a version that no message has set

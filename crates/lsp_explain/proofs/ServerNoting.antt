@@ -41,7 +41,7 @@ use Rattle.lsp_replay.specs.declared.heard.EventPlace.{EventPlace}
 use Rattle.lsp_replay.proofs.Seeing.{events-push}
 use Rattle.lsp_outline.specs.Versions.{versioned_at}
 use Rattle.lsp_explain.specs.DocumentNotes.{DocumentNote, document_note, first_notes}
-use Rattle.lsp_explain.specs.DocumentNotes.{notes_view, with_note}
+use Rattle.lsp_explain.specs.DocumentNotes.{is_noted, notes_view, with_note}
 use Rattle.lsp_explain.specs.EditRequests.{EditRequest, Holds, edit_requests, event_request}
 use Rattle.lsp_explain.specs.EditRequests.{most_requests}
 use Rattle.lsp_explain.specs.EditRequests.{request_of}
@@ -526,6 +526,16 @@ four_parts old a b c d =
     ap (λ l. (l ++ c) ++ d) (append_assoc old a b)
     ∙ ap (λ l. l ++ d) (append_assoc old (a ++ b) c)
     ∙ append_assoc old ((a ++ b) ++ c) d
+
+-- ---- a document that has a note
+
+-- no other one is written
+pub noted_already : (uri : List ℕ) (p : EventPlace) (notes : List DocumentNote)
+    (words : Option (List ℕ)) → is_noted uri notes ≡ true
+    → with_note notes (option_map (document_note (on_document uri p)) words) ≡ notes
+noted_already uri p notes None noted = refl
+noted_already uri p notes (Some w) noted =
+    ap (λ (b : Bool). if b then notes else notes ++ document_note (on_document uri p) w ∷ []) noted
 
 -- ---- a call that changes no document
 

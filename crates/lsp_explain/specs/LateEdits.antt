@@ -1,9 +1,8 @@
 -- Which edits were made in a text that had changed since they were asked for.
-use Rattle.std.specs.Prelude.{◌≡◌, ◌&&◌, ◌||◌, ℕ, ℤ, nat_lt, Bool, true, false, not, List, []}
-use Rattle.std.specs.Prelude.{◌∷◌, ◌++◌, map, length, if◌then◌else◌, Option, Some, None, codes}
+use Rattle.std.specs.Prelude.{◌≡◌, ◌&&◌, ℕ, ℤ, nat_lt, Bool, true, false, not, List, [], ◌∷◌}
+use Rattle.std.specs.Prelude.{◌++◌, map, length, if◌then◌else◌, Option, Some, None, codes}
 use Rattle.std.specs.Prelude.{option_and_then, option_map, string_bytes}
-use Rattle.std.specs.List.{flat_map, fold, insert, prefix_len}
-use Rattle.std.specs.Result.{result_ok}
+use Rattle.std.specs.List.{flat_map}
 use Rattle.std.specs.Str.{bytes_eq}
 use Rattle.lsp_docs.specs.Calls.{Bytes, Call, Text}
 use Rattle.lsp_docs.specs.Documents.{Terms, Version, held}
@@ -12,42 +11,19 @@ use Rattle.lsp_docs.specs.Snapshots.{kept}
 use Rattle.lsp_facts.specs.Fact.{place_words, spaced}
 use Rattle.lsp_replay.specs.declared.heard.EventPlace.{EventPlace}
 use Rattle.lsp_text.specs.Changes.{edits_of}
-use Rattle.lsp_text.specs.Edits.{Edit, applied}
+use Rattle.lsp_text.specs.Edits.{Edit}
 use Rattle.lsp_types.specs.declared.position.Encoding.{Encoding}
-use Rattle.lsp_types.specs.declared.position.Span.{Span}
+use Rattle.lsp_explain.specs.AtOnce.{makes}
 use Rattle.lsp_explain.specs.History.{last_ones, last_that}
 use Rattle.lsp_explain.specs.Marking.{last_setter}
-use Rattle.lsp_explain.specs.Rearranged.{is_before}
 use Rattle.lsp_explain.specs.SentEdits.{edits_size}
 use Rattle.lsp_explain.specs.TextsSince.{version_at}
 use Rattle.lsp_explain.specs.declared.notes.late_edits.LateAnswer as code
 use Rattle.lsp_explain.specs.declared.trail.mark.VersionEvent.{VersionEvent}
 
--- ---- edits, from the last to the first
-
--- a range begins before the other one, or at the same position, and ends before it does
-abbrev pub is_first : Span → Span → Bool
-is_first a b =
-    is_before a.first b.first
-    || (not (is_before b.first a.first) && is_before a.second b.second)
-
-abbrev pub precedes : Option Span → Option Span → Bool
-precedes (Some a) (Some b) = is_first a b
-precedes _ _ = false
-
--- an edit in front of those that it does not precede
-abbrev pub placed : List Edit → Edit → List Edit
-placed done edit = insert done (prefix_len (λ (e : Edit). precedes edit.span e.span) done) edit
-
--- **edits from the last to the first**: made one after another in this order, each is made in what
--- the text was before all of them. Of those with one range the one that was sent last comes first
-abbrev pub backwards : List Edit → List Edit
-backwards edits = fold placed [] edits
-
 -- ---- answers that came late
 
--- the document, the events of the request and of the answer, and the edits from the last to the
--- first
+-- the document, the events of the request and of the answer, and the edits
 pub record LateAnswer : Type 0 where
   pub uri : List ℕ
   pub asked : EventPlace
@@ -78,7 +54,7 @@ has_changed texts = nat_lt 1 (length texts)
 abbrev pub if_late : List ℕ → EventPlace → EventPlace → List Text → List Edit → Option LateAnswer
 if_late uri asked answered texts edits =
     if has_changed texts && are_held edits
-    then Some (late_answer uri asked answered (backwards edits)) else None
+    then Some (late_answer uri asked answered edits) else None
 
 -- how many of the last ones are looked at
 abbrev pub most_late : ℕ
@@ -91,24 +67,16 @@ abbrev pub is_since : List ℕ → VersionEvent → LateAnswer → Bool
 is_since uri setter a =
     bytes_eq a.uri uri && nat_lt setter.place.event a.answered.event
 
-abbrev pub is_text : Text → Option Text → Bool
-is_text now None = false
-is_text now (Some t) = bytes_eq t now
-
--- the edits make this text of that one
-abbrev pub makes : ℕ → Encoding → List Edit → Text → Text → Bool
-makes limit enc edits now t = is_text now (result_ok (applied limit enc t edits))
-
--- they make it of the newer text, and not of the older one
-abbrev pub makes_late : ℕ → Encoding → List Edit → Option Text → Option Text → Option Text → Bool
-makes_late limit enc edits (Some older) (Some newer) (Some now) =
-    makes limit enc edits now newer && not (makes limit enc edits now older)
-makes_late limit enc edits _ _ _ = false
+-- the edits make this text of the newer one, and not of the older one
+abbrev pub makes_late : Encoding → List Edit → Option Text → Option Text → Option Text → Bool
+makes_late enc edits (Some older) (Some newer) (Some now) =
+    makes enc edits now newer && not (makes enc edits now older)
+makes_late enc edits _ _ _ = false
 
 -- the same of the texts at these versions and the one that is held
-abbrev pub made_late : ℕ → Encoding → List Edit → ℤ → ℤ → List Version → Option Version → Bool
-made_late limit enc edits older newer kept v =
-    makes_late limit enc edits (text_at older kept v) (text_at newer kept v)
+abbrev pub made_late : Encoding → List Edit → ℤ → ℤ → List Version → Option Version → Bool
+made_late enc edits older newer kept v =
+    makes_late enc edits (text_at older kept v) (text_at newer kept v)
     (option_map (λ (w : Version). w.text) v)
 
 abbrev pub late_words : LateAnswer → List ℕ
@@ -122,8 +90,8 @@ abbrev pub words_if_late : Terms → List Call → Bytes → Encoding → List V
     → LateAnswer → Option (List ℕ)
 words_if_late terms made uri enc setters setter a =
     option_and_then (λ older.
-    if made_late terms.limit enc a.edits older setter.version (kept terms uri made)
-    (held terms uri made) then Some (late_words a) else None) (version_at a.asked setters)
+    if made_late enc a.edits older setter.version (kept terms uri made) (held terms uri made)
+    then Some (late_words a) else None) (version_at a.asked setters)
 
 -- of the last of these answers since the last of these messages
 abbrev pub words_since : Terms → List Call → Bytes → Encoding → List VersionEvent

@@ -29,6 +29,7 @@ pub mod Spellings
 pub mod TextEdits
 pub mod EditRequests
 pub mod TextsSince
+pub mod AtOnce
 pub mod LateEdits
 pub mod Unsent
 pub mod ServerEdits

@@ -15,6 +15,7 @@ ghost use Rattle.lsp_explain.specs.Notes.{unshown_line, with_exit, with_server};
 ghost use Rattle.lsp_explain.specs.Trails.{StandsAfter, terms_in};
 
 mod along;
+mod at_once;
 mod behind;
 mod document_notes;
 mod edit_requests;

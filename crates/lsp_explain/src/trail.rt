@@ -41,7 +41,7 @@ use crate::trail::step::{Step, step_of};
 pub(crate) use base::{Base, SentChanges, room_after};
 pub(crate) use bases::Bases;
 pub(crate) use conversation::Conversation;
-pub(crate) use copies::copy_of;
+pub(crate) use copies::copies_of;
 pub(crate) use last_change::LastChange;
 pub(crate) use last_ones::push_within;
 use lsp_replay::{EventPlace, Events, Fate, Seen};

@@ -1,8 +1,7 @@
 //! Edits that were made in a text that had changed since they were asked for.
-ghost use Rattle.std.specs.Prelude.{◌≡◌, ◌≤◌, ◌++◌, [], List, IfOk, OnOk, length, nat_lt, not};
-ghost use Rattle.std.specs.Prelude.{option_map, string_bytes};
-ghost use Rattle.std.specs.List.{cons_option, flat_map, prefix_len};
-ghost use Rattle.std.specs.Str.{bytes_eq};
+ghost use Rattle.std.specs.Prelude.{◌≡◌, ◌++◌, [], List, IfOk, OnOk, nat_lt, not, option_map};
+ghost use Rattle.std.specs.Prelude.{string_bytes};
+ghost use Rattle.std.specs.List.{cons_option, flat_map};
 ghost use Rattle.lsp_docs.specs.Calls.{Call as SpecCall};
 ghost use Rattle.lsp_docs.specs.Documents.{held};
 ghost use Rattle.lsp_docs.specs.Snapshots.{kept};
@@ -14,16 +13,16 @@ ghost use Rattle.lsp_explain.specs.Marking.{last_setter};
 ghost use Rattle.lsp_explain.specs.SentEdits.{edits_size};
 ghost use Rattle.lsp_explain.specs.TextsSince.{contents};
 ghost use Rattle.lsp_facts.specs.Fact.{place_words, spaced};
-ghost use Rattle.lsp_text.specs.Changes.{edit_of, edits_of};
+ghost use Rattle.lsp_text.specs.Changes.{edits_of};
 
+use crate::notes::at_once::makes;
 use crate::notes::texts_since::version_at;
-use crate::rearranged::is_before;
-use crate::trail::{VersionEvent, copy_of, push_within, room_after};
+use crate::trail::{VersionEvent, copies_of, push_within, room_after};
 use lsp_docs::Docs;
 use lsp_replay::EventPlace;
 use lsp_rpc::Result;
-use lsp_text::{Lined, TextStore, change_all};
-use lsp_types::{Change, Encoding, Fault, Memory, Span};
+use lsp_text::Lined;
+use lsp_types::{Change, Encoding};
 use lsp_verdict::who_name;
 use std::alloc::Global;
 use std::collections::VecDeque;
@@ -43,7 +42,7 @@ pub(crate) struct LateAnswer {
     asked: EventPlace,
     /// The place of the answer.
     answered: EventPlace,
-    /// Its edits, from the last to the first.
+    /// Its edits.
     edits: Vec<Change>,
 }
 
@@ -70,7 +69,7 @@ pub(crate) fn note_late(
         return Ok(());
     }
     let alloc = *late.allocator();
-    let edits = backwards(alloc, edits)?;
+    let edits = copies_of(alloc, edits)?;
     let uri = String::from_str(alloc, uri)?;
     let answer = LateAnswer {
         uri,
@@ -203,7 +202,7 @@ fn made_late(
     newer: i32,
 ) -> Result<bool>
     ensures { IfOk result (λ late. (made : List SpecCall) → Stands docs.now made
-        → late ≡ spec.made_late docs.now.terms.limit encoding (edits_of edits.now) older newer
+        → late ≡ spec.made_late encoding (edits_of edits.now) older newer
         (kept docs.now.terms uri.now made) (held docs.now.terms uri.now made)) }
 {
     let Some(older) = docs.store_at(uri, older) else {
@@ -216,40 +215,10 @@ fn made_late(
         return Ok(false);
     };
     let alloc = docs.alloc();
-    let limit = docs.limit();
-    if !makes(alloc, limit, encoding, edits, now, newer)? {
+    if !makes(alloc, encoding, edits, now, newer)? {
         return Ok(false);
     }
-    Ok(!makes(alloc, limit, encoding, edits, now, older)?)
-}
-
-/// Whether edits make a text of another one.
-fn makes(
-    alloc: Global,
-    limit: u64,
-    encoding: Encoding,
-    edits: &[Change],
-    now: &Lined,
-    text: &Lined,
-) -> Result<bool>
-    ensures { IfOk result (λ made. made ≡ spec.makes limit encoding (edits_of edits.now)
-        now.now.content text.now.content) }
-{
-    let mut copy = text.copy(alloc)?;
-    match change_all(&mut copy, encoding, edits, limit) {
-        Ok(_) => same_text(alloc, &copy, now),
-        Err(failed) => match failed.fault {
-            Fault::Rule(_) => Ok(false),
-            Fault::Memory => Err(Memory),
-        },
-    }
-}
-
-fn same_text(alloc: Global, text: &Lined, other: &Lined) -> Result<bool>
-    ensures { IfOk result (λ same. same ≡ bytes_eq text.now.content other.now.content) }
-{
-    let other = other.to_text(alloc)?;
-    Ok(text.equals(other.as_str()))
+    Ok(!makes(alloc, encoding, edits, now, older)?)
 }
 
 fn late_words(alloc: Global, answer: &LateAnswer) -> Result<String>
@@ -270,60 +239,4 @@ fn push_place(words: &mut String, place: EventPlace) -> Result<()>
     let name = who_name(who);
     write!(words, " event {event} {name} {number}")?;
     Ok(())
-}
-
-// ---- edits, from the last to the first
-
-/// Edits from the last to the first, so that each is made in what the text was before all of them.
-fn backwards(alloc: Global, edits: &[Change]) -> Result<Vec<Change>>
-    ensures { IfOk result (λ done. edits_of done.items ≡ spec.backwards (edits_of edits.now)) }
-{
-    let mut done = Vec::with_capacity(alloc, edits.len())?;
-    for edit in edits {
-        place(&mut done, edit)?;
-    }
-    Ok(done)
-}
-
-/// Adds an edit in front of those that it does not precede.
-fn place(done: &mut Vec<Change>, edit: &Change) -> Result<()>
-    ensures { OnOk result (edits_of done.new.items
-        ≡ spec.placed (edits_of done.old.items) (edit_of edit.now)) }
-{
-    let copy = copy_of(*done.allocator(), edit)?;
-    let at = count_behind(done.as_slice(), edit.span);
-    done.insert(at, copy)?;
-    Ok(())
-}
-
-/// How many of these are there before the first that a range does not precede.
-fn count_behind(done: &[Change], span: Option<Span>) -> usize
-    ensures value { result ≡ prefix_len (λ c. spec.precedes span c.span) done.now }
-    ensures bound { result ≤ length done.now }
-{
-    done.iter()
-        .take_while(|change| precedes(span, change.span))
-        .count()
-}
-
-fn precedes(span: Option<Span>, other: Option<Span>) -> bool
-    ensures { result ≡ spec.precedes span other }
-{
-    let Some(span) = span else {
-        return false;
-    };
-    let Some(other) = other else {
-        return false;
-    };
-    is_first(span, other)
-}
-
-/// Whether a range begins before the other one, or at the same position, and ends before it does.
-fn is_first(span: Span, other: Span) -> bool
-    ensures { result ≡ spec.is_first span other }
-{
-    if is_before(span.first, other.first) {
-        return true;
-    }
-    !is_before(other.first, span.first) && is_before(span.second, other.second)
 }

@@ -160,6 +160,9 @@ impl ServerEdits {
         let Call::Changes { uri, encoding, .. } = call else {
             return Ok(());
         };
+        if is_noted(self.late_edits.as_slice(), uri) {
+            return Ok(());
+        }
         let setters = trail.marks.setters(uri)?;
         let words = words_since(docs, uri, encoding, setters.as_slice(), &self.late)?;
         push_if(&mut self.late_edits, uri, words, place)

@@ -24,8 +24,8 @@ use std::alloc::Global;
 /// The characters before the places where a range begins and ends.
 #[derive(Clone, Copy, Debug, PartialEq, Eq)]
 pub(crate) struct Stretch {
-    first: u64,
-    second: u64,
+    pub(crate) first: u64,
+    pub(crate) second: u64,
 }
 
 /// The version that a document had at the event of this place, by the messages that set its
@@ -303,7 +303,11 @@ fn push_stretch(
 }
 
 /// Where a range begins and ends.
-fn stretch_of(encoding: Encoding, text: &Lined, span: Option<Span>) -> Result<Option<Stretch>>
+pub(crate) fn stretch_of(
+    encoding: Encoding,
+    text: &Lined,
+    span: Option<Span>,
+) -> Result<Option<Stretch>>
     ensures { IfOk result (λ found. found
         ≡ spec.stretch_of encoding text.now.content span) }
 {

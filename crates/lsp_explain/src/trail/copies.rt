@@ -56,7 +56,7 @@ fn write_text(held: &mut String, text: &str) -> Result<()>
 }
 
 /// Copies of changes.
-fn copies_of(alloc: Global, changes: &[Change]) -> Result<Vec<Change>, AllocError>
+pub(crate) fn copies_of(alloc: Global, changes: &[Change]) -> Result<Vec<Change>, AllocError>
     ensures { IfOk result (λ copies. edits_of copies.items ≡ edits_of changes.now) }
 {
     let mut copies = Vec::with_capacity(alloc, changes.len())?;
@@ -67,7 +67,7 @@ fn copies_of(alloc: Global, changes: &[Change]) -> Result<Vec<Change>, AllocErro
     Ok(copies)
 }
 
-pub(crate) fn copy_of(alloc: Global, change: &Change) -> Result<Change, AllocError>
+fn copy_of(alloc: Global, change: &Change) -> Result<Change, AllocError>
     ensures { IfOk result (λ copy. edit_of copy ≡ edit_of change.now) }
 {
     Ok(Change {

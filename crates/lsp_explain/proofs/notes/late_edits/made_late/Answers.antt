@@ -6,7 +6,6 @@ use Rattle.lsp_docs.specs.Documents.{held}
 use Rattle.lsp_docs.specs.Rules.{text_at}
 use Rattle.lsp_docs.specs.Snapshots.{kept}
 use Rattle.lsp_text.specs.Changes.{edits_of}
-use Rattle.lsp_explain.specs.LateEdits.{makes}
 use Rattle.lsp_explain.proofs.LateSteps.{made_newer, made_not, no_older}
 use Rattle.lsp_explain.proofs.notes.late_edits.made_late.Goals as goal
 
@@ -15,7 +14,7 @@ pub returns-in_default : goal.returns-in_default
 returns-in_default c = λ made stands.
     let fits : SFits w32 c.args.older = search rules in
     let at = simp to_z-of_z at (c.store_at.ensures made stands) in
-    no_older c.args.docs.now.terms.limit c.args.encoding (edits_of c.args.edits.now) _ _ _
+    no_older c.args.encoding (edits_of c.args.edits.now) _ _ _
     (sym (ap (option_map (λ s. s.now.content)) c.in_default.is) ∙ at)
 
 -- they don't make it of the newer one
@@ -34,10 +33,9 @@ returns-then-not-branch c = λ made stands.
     let fits_newer : SFits w32 c.args.newer = search rules in
     let has = simp to_z-of_z at (c.in-Some.ensures made stands) in
     let also = simp to_z-of_z at (c.in-Some-store_at.ensures made stands) in
-    made_not terms.limit enc edits (text_at c.args.older before v) (text_at c.args.newer before v)
+    made_not enc edits (text_at c.args.older before v) (text_at c.args.newer before v)
     (option_map (λ w. w.text) v) a b t has also (c.in-Some-store_of.ensures made stands)
-    (sym (c.in_ok-makes.ensures ∙ ap (λ limit. makes limit enc edits t b) c.limit-limit.ensures)
-    ∙ c.if-not-branch.true)
+    (sym c.in_ok-makes.ensures ∙ c.if-not-branch.true)
 
 pub returns : goal.returns
 returns c = λ made stands.
@@ -54,9 +52,7 @@ returns c = λ made stands.
     let fits_newer : SFits w32 c.args.newer = search rules in
     let has = simp to_z-of_z at (c.in-Some.ensures made stands) in
     let also = simp to_z-of_z at (c.in-Some-store_at.ensures made stands) in
-    made_newer terms.limit enc edits (text_at c.args.older before v) (text_at c.args.newer before v)
+    made_newer enc edits (text_at c.args.older before v) (text_at c.args.newer before v)
     (option_map (λ w. w.text) v) a b t has also (c.in-Some-store_of.ensures made stands)
     c.in_ok-makes-2.field-0
-    (sym (c.in_ok-makes.ensures ∙ ap (λ limit. makes limit enc edits t b) c.limit-limit.ensures)
-    ∙ c.if-not-branch.false)
-    (c.in_ok-makes-2.ensures ∙ ap (λ limit. makes limit enc edits t a) c.limit-limit.ensures)
+    (sym c.in_ok-makes.ensures ∙ c.if-not-branch.false) c.in_ok-makes-2.ensures

@@ -27,7 +27,7 @@ returns-then-not-branch c = λ made setter stands own.
     let late = simp to_z-of_z at (c.in_ok-made_late.ensures made stands) in
     words_not terms made uri enc c.args.setters.now setter (late_view c.args.answer.now) c.args.newer
     own older (sym c.in-Some.is ∙ c.version_at.ensures)
-    (ap (λ edits. made_late terms.limit enc (edits_of edits) older c.args.newer (kept terms uri made)
+    (ap (λ edits. made_late enc (edits_of edits) older c.args.newer (kept terms uri made)
     (held terms uri made)) (sym c.as_slice-edits.ensures.value) ∙ sym late ∙ c.if-not-branch.true)
 
 pub returns : goal.returns
@@ -41,6 +41,6 @@ returns c = λ made setter stands own.
     let late = simp to_z-of_z at (c.in_ok-made_late.ensures made stands) in
     words_so terms made uri enc c.args.setters.now setter (late_view c.args.answer.now) c.args.newer
     own older _ (sym c.in-Some.is ∙ c.version_at.ensures)
-    (ap (λ edits. made_late terms.limit enc (edits_of edits) older c.args.newer (kept terms uri made)
+    (ap (λ edits. made_late enc (edits_of edits) older c.args.newer (kept terms uri made)
     (held terms uri made)) (sym c.as_slice-edits.ensures.value) ∙ sym late ∙ c.if-not-branch.false)
     c.in_ok-late_words.ensures

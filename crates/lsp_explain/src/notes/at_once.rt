@@ -1,0 +1,166 @@
+//! What edits make of a text, if all their ranges are in it.
+ghost use Rattle.std.specs.Prelude.{◌≡◌, ◌≤◌, IfOk, OnOk, length, not, option_map, string_bytes};
+ghost use Rattle.std.specs.List.{prefix_len};
+ghost use Rattle.std.specs.Str.{IsUtf8, chars};
+ghost use Rattle.lsp_explain.specs.AtOnce as spec;
+ghost use Rattle.lsp_explain.specs.AtOnce.{splice_view, splices_view};
+ghost use Rattle.lsp_text.specs.Changes.{edit_of, edits_of};
+
+use crate::notes::texts_since::{Stretch, stretch_of};
+use lsp_rpc::Result;
+use lsp_text::{Lined, TextStore, offset_in_line};
+use lsp_types::{Change, Encoding, Memory};
+use std::alloc::Global;
+
+/// What an edit replaces in a text, by its places there, and what with.
+#[derive(Clone, Copy)]
+struct Splice<'a> {
+    at: Stretch,
+    text: &'a str,
+}
+
+/// Whether edits make a text of another one, in which all their ranges are.
+///
+/// # Errors
+/// `Memory` where memory was refused.
+pub(crate) fn makes(
+    alloc: Global,
+    encoding: Encoding,
+    edits: &[Change],
+    now: &Lined,
+    text: &Lined,
+) -> Result<bool>
+    ensures { IfOk result (λ made. made
+        ≡ spec.makes encoding (edits_of edits.now) now.now.content text.now.content) }
+{
+    let Some(splices) = splices_of(alloc, encoding, edits, text)? else {
+        return Ok(false);
+    };
+    let whole = text.to_text(alloc)?;
+    match made_of(alloc, whole.as_str(), splices.as_slice())? {
+        Some(made) => Ok(now.equals(made.as_str())),
+        None => Ok(false),
+    }
+}
+
+/// What edits make of a text, if none reaches into the one before it.
+fn made_of(alloc: Global, whole: &str, splices: &[Splice<'_>]) -> Result<Option<String>>
+    ensures { IfOk result (λ made. option_map (λ s. chars (string_bytes s)) made
+        ≡ spec.made_from 0 (chars whole.now) (splices_view splices.now)) }
+{
+    let mut made = String::with_capacity(alloc, whole.len())?;
+    let mut here = 0;
+    let mut rest = whole;
+    for splice in splices {
+        if !is_next(here, splice.at) {
+            return Ok(None);
+        }
+        rest = push_next(&mut made, here, rest, splice.at, splice.text)?;
+        here = splice.at.second;
+    }
+    made.push_str(rest)?;
+    Ok(Some(made))
+}
+
+/// Whether an edit begins no earlier than the one before it ends, and does not end before it
+/// begins.
+fn is_next(here: u64, at: Stretch) -> bool
+    ensures { result ≡ spec.is_next here at }
+{
+    here <= at.first && at.first <= at.second
+}
+
+/// Adds what comes before an edit, and its text. Answers what is left of the text behind it.
+fn push_next<'a>(
+    made: &mut String,
+    here: u64,
+    rest: &'a str,
+    at: Stretch,
+    text: &str,
+) -> Result<&'a str>
+    ensures { IfOk result (λ left. IsUtf8 (string_bytes made.old)
+        → spec.IsPut here (chars rest.now) (spec.splice_with (chars text.now) at)
+        (string_bytes made.old) (string_bytes made.new) left.now) }
+{
+    let Stretch { first, second } = at;
+    let (front, behind) = split_after(rest, first.saturating_sub(here))?;
+    let (_, left) = split_after(behind, second.saturating_sub(first))?;
+    made.push_str(front)?;
+    made.push_str(text)?;
+    Ok(left)
+}
+
+/// The first characters of a text, this many at most, and what comes after them. No text that is
+/// held has more than a `u32` counts: so many are answered as refused memory.
+fn split_after(text: &str, count: u64) -> Result<(&str, &str)>
+    ensures { IfOk result (λ parts. spec.IsSplit count text.now parts.0.now parts.1.now) }
+{
+    let Ok(column) = u32::try_from(count) else {
+        return Err(Memory);
+    };
+    let Some(offset) = offset_in_line(text, Encoding::Utf32, column) else {
+        return Err(Memory);
+    };
+    Ok(text.split_at(offset))
+}
+
+// ---- edits by their places in a text
+
+/// Edits in the order of a text, if their positions are outside of characters.
+fn splices_of<'a>(
+    alloc: Global,
+    encoding: Encoding,
+    edits: &'a [Change],
+    text: &Lined,
+) -> Result<Option<Vec<Splice<'a>>>>
+    ensures { IfOk result (λ found. option_map (λ ss. splices_view ss.items) found
+        ≡ option_map spec.in_order
+        (spec.splices_of encoding text.now.content (edits_of edits.now))) }
+{
+    let mut done = Vec::with_capacity(alloc, edits.len())?;
+    for edit in edits {
+        let Some(splice) = splice_of(encoding, edit, text)? else {
+            return Ok(None);
+        };
+        place(&mut done, splice)?;
+    }
+    Ok(Some(done))
+}
+
+fn splice_of<'a>(encoding: Encoding, edit: &'a Change, text: &Lined) -> Result<Option<Splice<'a>>>
+    ensures { IfOk result (λ found. option_map splice_view found
+        ≡ spec.splice_of encoding text.now.content (edit_of edit.now)) }
+{
+    let Some(at) = stretch_of(encoding, text, edit.span)? else {
+        return Ok(None);
+    };
+    let text = edit.text.as_str();
+    Ok(Some(Splice { at, text }))
+}
+
+/// Adds one behind those that it does not come before.
+fn place<'a>(done: &mut Vec<Splice<'a>>, splice: Splice<'a>) -> Result<()>
+    ensures { OnOk result (splices_view done.new.items
+        ≡ spec.placed (splices_view done.old.items) (splice_view splice.entry)) }
+{
+    let at = count_before(done.as_slice(), splice.at);
+    done.insert(at, splice)?;
+    Ok(())
+}
+
+/// How many of the first ones a stretch does not come before.
+fn count_before(done: &[Splice<'_>], stretch: Stretch) -> usize
+    ensures value { result ≡ prefix_len (λ s. not (spec.is_first stretch s.at)) done.now }
+    ensures bound { result ≤ length done.now }
+{
+    done.iter()
+        .take_while(|other| !is_first(stretch, other.at))
+        .count()
+}
+
+/// Whether a stretch begins before the other one, or at the same place, and ends before it does.
+fn is_first(stretch: Stretch, other: Stretch) -> bool
+    ensures { result ≡ spec.is_first stretch other }
+{
+    stretch.first < other.first || (stretch.first == other.first && stretch.second < other.second)
+}
