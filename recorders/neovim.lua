@@ -23,8 +23,8 @@ for _ = 1, 9 do
   end
 end
 
--- Why no log is written there: whoever else could replace files there could have Neovim write to any
--- file of its user. In a sticky folder, such as /tmp, nobody else can.
+-- Why no log is written there: whoever else could replace files there could have Neovim write to
+-- any file of its user. In a sticky folder, such as /tmp, nobody else can.
 local sticky, by_others = tonumber("1000", 8), tonumber("2", 8)
 local function why_refused()
   if not uv.getuid then

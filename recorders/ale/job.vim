@@ -166,8 +166,8 @@ function! s:IsRefused() abort
   return !empty(system("sh -c '" . l:find . "' sh " . shellescape(l:folder)))
 endfunction
 
-" Creates a file that did not exist. The shell does it, since Vim itself cannot refuse to write to an
-" existing file.
+" Creates a file that did not exist. The shell does it, since Vim itself cannot refuse to write to
+" an existing file.
 function! s:New(file) abort
   return system("sh -c 'umask 077; set -C; : > \"$1\"' sh " . shellescape(a:file))
 endfunction

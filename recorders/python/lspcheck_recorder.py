@@ -25,7 +25,7 @@ from typing import Any, Awaitable, Callable, Iterable, Iterator
 # The version of lspcheck that this file belongs to.
 __version__ = "1.0.0"
 
-# A file is no link, where the system can say so.
+# Opens no symbolic link, where the system has that.
 NO_LINK = getattr(os, "O_NOFOLLOW", 0)
 
 # The most bytes that one record may hold.

@@ -83,7 +83,7 @@ def tells_each(place, program):
 
 
 def keeps_others_files(place, program):
-    """Files of the names that those next to the log would have stay as they are, and this is said."""
+    """Files that have the names of those next to the log stay as they are, and this is said."""
     editor = checked(place, program, "--check")
     editor.has_logged(b'"initialized"')
     log, = editor.logs.glob("*.log")
@@ -97,8 +97,9 @@ def keeps_others_files(place, program):
     for path in (explain, ended):
         yield f"{path.suffix} stays", path.read_text() == "of another\n", path.read_text()
     said = [line for line in editor.words().split("\n") if line.startswith("proxy: ")]
-    wanted = [f"proxy: {explain}: File exists; explanations are written here alone", f"proxy: {ended}: File exists"]
-    yield "is said", sorted(said) == sorted(wanted), said
+    wanted = [f"proxy: {explain}: File exists; explanations are written here alone"]
+    wanted.append(f"proxy: {ended}: File exists")
+    yield "is said", said == wanted, said
 
 
 def tells_lost_end(place, program):

@@ -3,9 +3,9 @@
 //! `lspcheck check` reads the log of a recorded session and reports the verdict on it, or writes a
 //! line for each of several logs. `explain` adds the details of the event that breaks a rule, and
 //! `show` lists the events before it. `text` writes the text of a document after a message, and
-//! `event` the content of one event. `normal` writes the log in its normal form, `upgrade` writes it
-//! in format 2, and `redact` without its words. `frames` reads one raw stream, one direction of such
-//! a session, and lists its frames, or writes them in canonical form.
+//! `event` the content of one event. `normal` writes the log in its normal form, `upgrade` in
+//! format 2, and `redact` without its words. `frames` reads one raw stream, one direction of such a
+//! session, and lists its frames, or writes them in canonical form.
 //!
 //! `lsp_command` has what the words request, how it is done and what its end means; here the
 //! words, the input and the two outputs come from the system.

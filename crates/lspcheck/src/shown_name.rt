@@ -3,8 +3,8 @@ use lsp_command::quoted_name;
 use std::alloc::Global;
 use std::fmt;
 
-/// The name of a file as messages show it, so that no terminal takes a part of it for a command, and
-/// nobody misses it: as JSON text where it has a control character, and where it is empty.
+/// The name of a file as messages show it, so that no terminal takes a part of it for a command,
+/// and nobody misses it: as JSON text where it has a control character, and where it is empty.
 #[derive(Drop)]
 pub(crate) struct ShownName<'a> {
     name: &'a str,
