@@ -21,7 +21,6 @@ from side_by_side import Task, adopt, end_children, run_all  # noqa: E402
 from stops import Stopped, catch, end_by  # noqa: E402
 
 PROOFS = "./run --prove ci"
-PROOFS_ASIDE = "tests/proofs_aside"
 COMPILES = "./run --program"
 
 # The words that stand for a program: the proved one, or whichever there is first.
@@ -35,7 +34,6 @@ GATE = [
     "tests/words",
     "tests/mutants/run --stale",
     PROOFS,
-    PROOFS_ASIDE,
     COMPILES,
     "tests/compile-fail/run",
     "tests/api/run",
@@ -87,7 +85,7 @@ class Gate:
 
     def room(self):
         """How many tasks more may run."""
-        running = sum(it.is_running() for name, it in self.tasks.items() if name not in (PROOFS, PROOFS_ASIDE))
+        running = sum(it.is_running() for name, it in self.tasks.items() if name != PROOFS)
         return (self.width if self.is_over(PROOFS) else (self.width + 1) // 2) - running
 
     def start(self):
@@ -99,7 +97,7 @@ class Gate:
                 continue
             if lacking and self.is_over(PROOFS) and (PROVED in lacking or self.is_over(COMPILES)):
                 task.why_not = "there is no proved program" if PROVED in lacking else "there is no program"
-            elif not lacking and (command in (PROOFS, PROOFS_ASIDE) or self.room() > 0):
+            elif not lacking and (command == PROOFS or self.room() > 0):
                 self.begin(command, task, found)
 
     def begin(self, command, task, found):
@@ -109,7 +107,7 @@ class Gate:
         words[0] = words[0] if command == PROOFS else str((self.copy if command == COMPILES else TOP) / words[0])
         if ANY in command.split() and PROVED not in found:
             task.title += ", over a program with checks"
-        task.start(words, 0 if command in (PROOFS, PROOFS_ASIDE) or PROOFS not in self.tasks else NICENESS)
+        task.start(words, 0 if command == PROOFS or PROOFS not in self.tasks else NICENESS)
 
     def lay_out(self):
         """Copies what ./run needs, and the program that it has kept, if any."""

@@ -15,11 +15,9 @@ TOP = Path(__file__).resolve().parent.parent
 # What ./test is made of.
 GATE = ["test", "tests/gate.py", "tests/side_by_side.py", "recorders/outputs.py", "page/stops.py"]
 
-# What proves, the scripts that ./test runs without the proved program, and those that need it; and all
-# that ./test quick runs.
-PROOFS = ["rt", "tests/proofs_aside"]
+# The scripts that ./test runs without the proved program, and those that need it; and all that ./test
+# quick runs.
 UNPROVED = [
-    "tests/proofs_aside",
     "tests/guarantees", "tests/links", "tests/words", "tests/mutants/run", "tests/compile-fail/run", "tests/api/run",
     "run", "tests/of_checks", "tests/of_run", "recorders/suites", "tests/proxy/run", "recorders/traces/run",
     "package/completions/run", "replay/run",
@@ -102,7 +100,7 @@ class Made:
         """How many scripts ran at once, besides the proofs, until this line of the log."""
         found = [0]
         for word, name, *_ in self.log[: last and self.log.index(last)]:
-            found.append(found[-1] + (0 if name in PROOFS else 1 if word == "begins" else -1))
+            found.append(found[-1] + (0 if name == "rt" else 1 if word == "begins" else -1))
         return max(found)
 
     def says(self, status, passed, failed, named=()):
@@ -155,7 +153,7 @@ def on_side_by_side():
     yield f"./test: with {count} processors", made.most() == count
     yield f"./test: beside the proofs, with {count}", made.most(["ends", "rt"]) == 1
     priorities = {it[1]: int(it[2]) for it in made.log if it[0] == "begins"}
-    yield "./test: the proofs come first", all(it > priorities["rt"] for name, it in priorities.items() if name not in PROOFS)
+    yield "./test: the proofs come first", all(it > priorities["rt"] for name, it in priorities.items() if name != "rt")
 
 
 def on_quick():
