@@ -175,7 +175,9 @@ const FACTS = {
   record: ["Record", (it) => [`number ${it.count} of the log`]],
   byte: ["Place", (it) => [`${it.count} bytes into the log`]],
   found: ["The line there", (it) => [shownText(it.text)]],
-  usually: ["Usually", (it) => [`the fault is ${FAULTS[it.who] ?? it.who}`]],
+  usually: ["Usually", (it) => [
+    `the fault is ${[it.who, it.or].filter(Boolean).map((who) => FAULTS[who] ?? who).join(" or ")}`,
+  ]],
 };
 
 // What says nothing that is not shown elsewhere.

@@ -295,6 +295,13 @@ LINE_KINDS = {
     "python": "splitlines of Python has them",
 }
 
+FAULTS = {
+    "editor": "the editor’s",
+    "server": "the server’s",
+    "recorder": "the recorder’s",
+    "outside": "neither side’s: the session goes beyond what lspcheck follows",
+}
+
 SENTENCES = {
     "held": ("Held", lambda it: f"version {it[0]}, set by {event_words(it[1:])}"),
     "sent": ("This message", lambda it: f"sets version {it[0]}"),
@@ -313,6 +320,7 @@ SENTENCES = {
     "exchanged": ("It would fit", lambda it: f"if version {it[0]} came after the next one: {event_words(it[1:])}"),
     "without": ("It would fit", lambda it: f"if version {it[0]} were left out: {event_words(it[1:])}"),
     "right-from": ("Right from", lambda it: f"version {it[0]} on: the messages after it fit the text of {event_words(it[1:])}"),
+    "usually": ("Usually", lambda it: f"the fault is {' or '.join(FAULTS[who] for who in it if who != 'or')}"),
     "at": ("First difference", place),
     "codes": ("Characters", code_words),
     "ends": ("Line ends", ends_words),

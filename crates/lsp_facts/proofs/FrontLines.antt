@@ -6,8 +6,8 @@ use Rattle.std.proofs.lemmas.Bool.{and_left, or_from}
 use Rattle.std.proofs.lemmas.Grind.{common_steps}
 use Rattle.std.proofs.lemmas.List.Splits.{length-slice_split, slice_split_first, slice_split_none}
 use Rattle.std.proofs.lemmas.List.Sums.{fails_before_first}
-use Rattle.lsp_facts.specs.FrameFronts.{is_blank_line, is_field_line, is_lf, is_line_front}
-use Rattle.lsp_facts.specs.FrameFronts.{may_begin, may_go_on}
+use Rattle.lsp_facts.specs.FrameFronts.{are_header_lines, is_blank_line, is_field_line, is_lf}
+use Rattle.lsp_facts.specs.FrameFronts.{is_line_front, may_begin}
 
 -- ---- the lines of bytes
 
@@ -35,9 +35,9 @@ more line [] some = absurd (omega arith)
 more line (next ∷ lines) some = refl
 
 with_line : (bytes : List ℕ) (n : ℕ) → Some n ≡ position is_lf bytes
-    → may_go_on bytes
+    → are_header_lines bytes
     ≡ (is_blank_line (take n bytes)
-    || (is_field_line (take n bytes) && may_go_on (drop (n + 1) bytes)))
+    || (is_field_line (take n bytes) && are_header_lines (drop (n + 1) bytes)))
 with_line bytes n found =
     let rest : List ℕ = drop (n + 1) bytes in
     let some : 0 < length (slice_split is_lf rest) = omega (arith, length-slice_split is_lf rest) in
@@ -45,18 +45,18 @@ with_line bytes n found =
 
 -- the header part ends
 pub blank_next : (bytes : List ℕ) (n : ℕ) → Some n ≡ position is_lf bytes
-    → is_blank_line (take n bytes) ≡ true → may_go_on bytes ≡ true
+    → is_blank_line (take n bytes) ≡ true → are_header_lines bytes ≡ true
 blank_next bytes n found blank =
     with_line bytes n found
-    ∙ ap (λ (b : Bool). b || (is_field_line (take n bytes) && may_go_on (drop (n + 1) bytes)))
+    ∙ ap (λ (b : Bool). b || (is_field_line (take n bytes) && are_header_lines (drop (n + 1) bytes)))
     blank
 
 -- a line that is none of one
 pub other_next : (bytes : List ℕ) (n : ℕ) → Some n ≡ position is_lf bytes
     → is_blank_line (take n bytes) ≡ false → is_field_line (take n bytes) ≡ false
-    → may_go_on bytes ≡ false
+    → are_header_lines bytes ≡ false
 other_next bytes n found blank field =
-    let tail : Bool = may_go_on (drop (n + 1) bytes) in
+    let tail : Bool = are_header_lines (drop (n + 1) bytes) in
     with_line bytes n found
     ∙ or_from (is_blank_line (take n bytes)) (is_field_line (take n bytes) && tail) blank
     (and_left (is_field_line (take n bytes)) tail field)
@@ -64,11 +64,11 @@ other_next bytes n found blank field =
 -- a field, and what follows
 pub field_next : (bytes : List ℕ) (n : ℕ) → Some n ≡ position is_lf bytes
     → is_blank_line (take n bytes) ≡ false → is_field_line (take n bytes) ≡ true
-    → may_go_on bytes ≡ may_go_on (drop (n + 1) bytes)
+    → are_header_lines bytes ≡ are_header_lines (drop (n + 1) bytes)
 field_next bytes n found blank field =
-    with_line bytes n found ∙ λ i. blank i || (field i && may_go_on (drop (n + 1) bytes))
+    with_line bytes n found ∙ λ i. blank i || (field i && are_header_lines (drop (n + 1) bytes))
 
 -- what is left is not at its end
 pub left_over : (bytes : List ℕ) → None ≡ position is_lf bytes
-    → may_go_on bytes ≡ is_line_front bytes
+    → are_header_lines bytes ≡ is_line_front bytes
 left_over bytes none = ap may_begin (one_line bytes none)

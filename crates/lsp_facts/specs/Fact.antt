@@ -30,7 +30,7 @@ use Rattle.lsp_verdict.specs.declared.verdict.Who.{Who}
 use Rattle.serde_json.specs.Data.{Data}
 use Rattle.serde_json.specs.Read.{read}
 use Rattle.lsp_facts.specs.FrameFronts.{may_go_on}
-use Rattle.lsp_facts.specs.Sentences.{so_lines}
+use Rattle.lsp_facts.specs.Sentences.{blamed, so_lines}
 use Rattle.lsp_facts.specs.declared.part.Excerpt as code
 
 -- ---- a line of a document, of which a long one is shown as the part around a place
@@ -277,6 +277,6 @@ usual_of (no rule by count event) = usual rule by
 usual_of (bad_log at code) = codes "recorder"
 usual_of (yes s) = codes "recorder"
 
--- **the facts, whose fault it usually is, and what they mean together**
+-- **the facts, whose fault it usually is**, by them or by the rule, **and what they mean together**
 abbrev pub detail_lines : List Fact → List ℕ → List ℕ
-detail_lines facts who = fact_lines facts ++ usual_line who ++ so_lines facts
+detail_lines facts who = fact_lines facts ++ usual_line (blamed facts who) ++ so_lines facts

@@ -1,6 +1,6 @@
 -- Whether a frame that is not whole can become one.
 use Rattle.std.specs.Prelude.{◌||◌, ◌&&◌, ◌==◌, ◌-◌, ℕ, nat_lt, List, [], ◌∷◌, length, take, drop}
-use Rattle.std.specs.Prelude.{slice_get, Bool, true, false, Option, Some, None}
+use Rattle.std.specs.Prelude.{slice_get, Bool, true, false, Option, Some, None, not}
 use Rattle.std.specs.List.{list_all, prefix_len, slice_split}
 use Rattle.lsp_frame.specs.Header.{is_text, is_token}
 
@@ -52,6 +52,13 @@ may_begin (line ∷ next ∷ lines) =
 abbrev pub is_lf : ℕ → Bool
 is_lf b = b == 10
 
--- **bytes that could follow may make a frame of these**: their lines are those of a header part
+abbrev pub are_header_lines : List ℕ → Bool
+are_header_lines bytes = may_begin (slice_split is_lf bytes)
+
+abbrev pub begins_with_cr : List ℕ → Bool
+begins_with_cr bytes = is_cr (slice_get bytes 0)
+
+-- **bytes that could follow may make a frame of these**: their lines are those of a header part, of
+-- which the first is a field, since one at least gives the length of the content
 abbrev pub may_go_on : List ℕ → Bool
-may_go_on rest = may_begin (slice_split is_lf rest)
+may_go_on rest = not (begins_with_cr rest) && are_header_lines rest

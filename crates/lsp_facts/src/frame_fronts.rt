@@ -5,9 +5,25 @@ ghost use Rattle.lsp_facts.specs.FrameFronts as spec;
 ghost use Rattle.lsp_frame.specs.Header.{is_text as text, is_token as token};
 
 /// Whether bytes that could follow may make a frame of these: their lines are those of a header
-/// part (RFC 9110, sections 5.5 and 5.6.2), as far as it goes.
+/// part (RFC 9110, sections 5.5 and 5.6.2), as far as it goes, and the first is not the empty one.
 pub(crate) fn may_go_on(rest: &[u8]) -> bool
     ensures { result ≡ spec.may_go_on rest.now }
+{
+    !begins_with_cr(rest) && are_header_lines(rest)
+}
+
+fn begins_with_cr(bytes: &[u8]) -> bool
+    ensures { result ≡ spec.begins_with_cr bytes.now }
+{
+    match bytes.first() {
+        Some(byte) => *byte == b'\r',
+        None => false,
+    }
+}
+
+/// Whether the lines are those of a header part, as far as it goes.
+fn are_header_lines(rest: &[u8]) -> bool
+    ensures { result ≡ spec.are_header_lines rest.now }
 {
     let mut left = rest;
     while let Some(size) = line_len(left) {

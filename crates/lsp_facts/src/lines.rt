@@ -4,13 +4,13 @@ ghost use Rattle.lsp_rpc.specs.View.{message_view};
 ghost use Rattle.lsp_facts.specs.Fact as spec;
 
 use crate::facts::{Facts, push_facts};
-use crate::sentences::push_sentence;
+use crate::sentences::{blamed, push_sentence};
 use lsp_replay::EventPlace;
 use lsp_rpc::{Memory, Message, Result, RpcFault, read, words_of};
 use lsp_verdict::{Who, who_name};
 use std::fmt::Write;
 
-/// Adds the lines of facts, one each, whose fault that usually is, as
+/// Adds the lines of facts, one each, whose fault that usually is, by these lines or as
 /// [`usual`](crate::blame::usual) gives it, and the sentence that they mean together, if any.
 ///
 /// # Errors
@@ -20,7 +20,7 @@ pub fn push_details(lines: &mut String, facts: &Facts, usual: &str) -> Result<()
         ≡ string_bytes lines.old ++ spec.detail_lines facts.now usual.now) }
 {
     push_facts(lines, facts)?;
-    push_usual(lines, usual)?;
+    push_usual(lines, blamed(facts, usual))?;
     push_sentence(lines, facts)
 }
 

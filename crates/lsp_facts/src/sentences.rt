@@ -1,4 +1,4 @@
-//! What facts mean together, in one plain sentence.
+//! What facts mean together, in one plain sentence, and whose fault that usually is.
 ghost use Rattle.std.specs.Prelude.{◌≡◌, ◌++◌, OnOk, map, option_map, string_bytes};
 ghost use Rattle.lsp_facts.specs.Sentences as spec;
 ghost use Rattle.lsp_facts.specs.Sentences.{row_view, so_line, so_lines};
@@ -6,11 +6,32 @@ ghost use Rattle.lsp_facts.specs.Sentences.{row_view, so_line, so_lines};
 use crate::facts::Facts;
 use lsp_rpc::{Result, push_quoted};
 
-/// How two lines of the facts begin, and the sentence. Any line begins with no text.
+/// How two lines of the facts begin, and what is said where both are there. Any line begins with no
+/// text.
 pub(crate) type Row = (&'static str, &'static str, &'static str);
 
 /// The first row whose lines are there has the sentence.
-pub(crate) const ROWS: [Row; 28] = [
+pub(crate) const ROWS: [Row; 35] = [
+    (
+        "fits utf-8\n",
+        "inside ",
+        "The editor may split a character, or count columns in utf-8, which was not agreed.",
+    ),
+    (
+        "fits utf-16\n",
+        "inside ",
+        "The editor may split a character, or count columns in utf-16, which was not agreed.",
+    ),
+    (
+        "fits utf-32\n",
+        "inside ",
+        "The editor may split a character, or count columns in utf-32, which was not agreed.",
+    ),
+    (
+        "fits ",
+        "inside ",
+        "The editor may split a character, or count columns in another encoding than the agreed one.",
+    ),
     (
         "fits utf-8\n",
         "encoding utf-16\n",
@@ -77,16 +98,6 @@ pub(crate) const ROWS: [Row; 28] = [
         "The editor may have sent a change that it did not make.",
     ),
     (
-        "right-from ",
-        "",
-        "The last messages seem right; an earlier one is wrong, or a change was never sent.",
-    ),
-    (
-        "suspects 1\n",
-        "equal ",
-        "Either one message is wrong, or one change was never sent.",
-    ),
-    (
         "ends converted ",
         "",
         "Only line ends differ: each is written in another way.",
@@ -97,6 +108,26 @@ pub(crate) const ROWS: [Row; 28] = [
         "Only the line end at the very end differs.",
     ),
     ("ends mixed\n", "", "Only line ends differ."),
+    (
+        "right-from ",
+        "",
+        "The last messages seem right; an earlier one is wrong, or a change was never sent.",
+    ),
+    (
+        "suspects 0\n",
+        "saved ",
+        "The text may have changed without a message, or another text may have been saved.",
+    ),
+    (
+        "suspects 0\n",
+        "",
+        "The text may have changed without a message, or the snapshot may be of another moment.",
+    ),
+    (
+        "suspects 1\n",
+        "equal ",
+        "Either one message is wrong, or one change was never sent.",
+    ),
     (
         "counts ",
         "",
@@ -111,7 +142,12 @@ pub(crate) const ROWS: [Row; 28] = [
     (
         "precedes ",
         "",
-        "The editor sent two messages in the wrong order.",
+        "The editor seems to have sent two messages in the wrong order.",
+    ),
+    (
+        "saved-as ",
+        "closed ",
+        "The editor closed this document, saved it later, and did not open it again.",
     ),
     (
         "saved-as ",
@@ -136,6 +172,27 @@ pub(crate) const ROWS: [Row; 28] = [
     ),
     ("answered ", "", "The request was answered before."),
 ];
+
+/// Whose fault it usually is, whatever the rule, where these lines are there.
+pub(crate) const BLAMES: [Row; 1] = [("suspects 0\n", "in-editor ", "editor or recorder")];
+
+/// Whose fault it usually is by these facts, where a row says so; else it is this side's, or who
+/// else is named here.
+pub(crate) fn blamed<'a>(facts: &Facts, usual: &'a str) -> &'a str
+    ensures { result.now ≡ spec.blamed facts.now usual.now }
+{
+    blamed_by(&BLAMES, facts, usual)
+}
+
+/// The same by these rows.
+fn blamed_by<'a>(rows: &[Row], facts: &Facts, usual: &'a str) -> &'a str
+    ensures { result.now ≡ spec.blamed_by (map row_view rows.now) facts.now usual.now }
+{
+    match row_for(rows, facts) {
+        Some(row) => row.2,
+        None => usual,
+    }
+}
 
 /// Adds the line of the sentence that a row has for the facts, if one does.
 ///

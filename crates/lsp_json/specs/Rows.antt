@@ -105,6 +105,7 @@ rows =
     ∷ (codes "picked", codes "picked name=*")
     ∷ (codes "registers", codes "registers method=*")
     ∷ (codes "usually", codes "usually who=*")
+    ∷ (codes "usually", codes "usually who=* or or=*")
     ∷ (codes "so", codes "so sentence=*")
     ∷ (codes "note", codes "note note=as-notification method=* @")
     ∷ (codes "note", codes "note note=as-request method=* @")

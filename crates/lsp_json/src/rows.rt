@@ -6,7 +6,7 @@ pub(crate) type Row = (&'static str, &'static str);
 
 /// The rows of the lines of a report: of events, of a verdict, of a log that was not judged, of
 /// details, and of notes. Those of events come first, since they take most lines of a long report.
-pub(crate) const ROWS: [Row; 116] = [
+pub(crate) const ROWS: [Row; 117] = [
     (
         "notification",
         "event=* side=* notification method=* number=* uri=* version=*",
@@ -130,6 +130,7 @@ pub(crate) const ROWS: [Row; 116] = [
     ("picked", "picked name=*"),
     ("registers", "registers method=*"),
     ("usually", "usually who=*"),
+    ("usually", "usually who=* or or=*"),
     ("so", "so sentence=*"),
     ("note", "note note=as-notification method=* @"),
     ("note", "note note=as-request method=* @"),

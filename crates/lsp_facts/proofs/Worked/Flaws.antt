@@ -50,6 +50,12 @@ in_a_content = refl
 line_feeds_alone : may_go_on (codes "Content-Length: 9\n\n{}") ≡ false
 line_feeds_alone = refl
 
+a_blank_line : may_go_on (codes "\r\n") ≡ false
+a_blank_line = refl
+
+half_of_one : may_go_on (codes "\r") ≡ false
+half_of_one = refl
+
 printed : may_go_on (codes "clangd version 14") ≡ false
 printed = refl
 

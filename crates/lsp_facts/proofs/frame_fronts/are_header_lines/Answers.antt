@@ -1,7 +1,7 @@
 use Rattle.std.proofs.Common.{ap, sym, ◌∙◌}
-use Rattle.lsp_facts.specs.FrameFronts.{may_go_on}
+use Rattle.lsp_facts.specs.FrameFronts.{are_header_lines}
 use Rattle.lsp_facts.proofs.FrontLines.{blank_next, field_next, left_over, other_next}
-use Rattle.lsp_facts.proofs.frame_fronts.may_go_on.Goals as goal
+use Rattle.lsp_facts.proofs.frame_fronts.are_header_lines.Goals as goal
 
 -- the header part ends
 pub returns-then-is_blank_line : goal.returns-then-is_blank_line
@@ -24,7 +24,7 @@ loop-size-preserved c =
     ∙ field_next c.loop-size.left.now c.in-Some.size c.in-Some.ensures.value
     (sym c.is_blank_line.ensures ∙ c.if-is_blank_line.false)
     (sym c.is_field_line.ensures ∙ c.if-not-is_field_line.false)
-    ∙ ap may_go_on (sym c.rest_after-left.ensures)
+    ∙ ap are_header_lines (sym c.rest_after-left.ensures)
 
 -- what is left is not at its end
 pub returns : goal.returns
