@@ -98,6 +98,7 @@ function shownOffer({ names, more }) {
 const FACTS = {
   __proto__: null,
   begins: ["It begins", (it) => [shownText(it.text)]],
+  "header-ends": ["Its first line", (it) => [`ends with ${it.name.toUpperCase()} alone`]],
   breaks: ["JSON until", (it) => [`byte ${it.count} of the content`]],
   before: ["Before it", (it) => [shownText(it.text)]],
   after: ["After it", (it) => [shownText(it.text)]],
@@ -134,6 +135,9 @@ const FACTS = {
   ]],
   "right-from": ["Right from", (it) => [
     `version ${it.version} on: the messages after it fit the text of `, ...shownEvent(it),
+  ]],
+  "offset-encoding": ["The server", (it) => [
+    `named ${it.name.toUpperCase()} in the older member offsetEncoding`,
   ]],
   bytes: ["Size", (it) => [`the text would have ${it.count} bytes`]],
   limit: ["Limit", (it) => [`${it.count} bytes`]],

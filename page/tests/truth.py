@@ -320,6 +320,8 @@ SENTENCES = {
     "exchanged": ("It would fit", lambda it: f"if version {it[0]} came after the next one: {event_words(it[1:])}"),
     "without": ("It would fit", lambda it: f"if version {it[0]} were left out: {event_words(it[1:])}"),
     "right-from": ("Right from", lambda it: f"version {it[0]} on: the messages after it fit the text of {event_words(it[1:])}"),
+    "offset-encoding": ("The server", lambda it: f"named {it[0].upper()} in the older member offsetEncoding"),
+    "header-ends": ("Its first line", lambda it: f"ends with {it[0].upper()} alone"),
     "usually": ("Usually", lambda it: f"the fault is {' or '.join(FAULTS[who] for who in it if who != 'or')}"),
     "at": ("First difference", place),
     "codes": ("Characters", code_words),

@@ -442,6 +442,16 @@ NO_LOGS = {
     b"\x28\xb5\x2f\xfd\x00": b"compressed",
     b"lsp-session 9\n": b"format",
     b"hello\n": b"docs/LOG_FORMAT.md",
+    b"[hello] - \n": b"docs/LOG_FORMAT.md",
+    b"[Trace - 11:35:00 AM] Sending request 'initialize - (1)'.\n": b"from-trace",
+    b"[Info  - 9:29:41 AM] The server starts.\n": b"from-trace",
+    b'[LSP   - 9:29:42 AM] {"isLSPMessage":true}\n': b"from-trace",
+    b'{"isLSPMessage":true}\n': b"from-trace",
+    b"I[11:34:09.136] Debian clangd version 14.0.6\n": b"from-trace",
+    b"2024-05-02T10:11:12.345 helix_view::editor [ERROR] x\n": b"from-trace",
+    b"2024-05-02 10:11:12.345 [info] x\n": b"from-trace",
+    b"\n// Send:\n{}\n": b"from-trace",
+    b"// Send:\n{}\n": b"from-trace",
 }
 
 # How they begin, as JSON text: at most the 14 bytes that a first line has, up to a line end, as far as they are UTF-8.
@@ -455,6 +465,16 @@ NO_LOG_LINES = {
     b"\x28\xb5\x2f\xfd\x00": b'"("',
     b"lsp-session 9\n": rb'"lsp-session 9\n"',
     b"hello\n": rb'"hello\n"',
+    b"[hello] - \n": rb'"[hello] - \n"',
+    b"[Trace - 11:35:00 AM] Sending request 'initialize - (1)'.\n": b'"[Trace - 11:35"',
+    b"[Info  - 9:29:41 AM] The server starts.\n": b'"[Info  - 9:29:"',
+    b'[LSP   - 9:29:42 AM] {"isLSPMessage":true}\n': b'"[LSP   - 9:29:"',
+    b'{"isLSPMessage":true}\n': rb'"{\"isLSPMessage"',
+    b"I[11:34:09.136] Debian clangd version 14.0.6\n": b'"I[11:34:09.136"',
+    b"2024-05-02T10:11:12.345 helix_view::editor [ERROR] x\n": b'"2024-05-02T10:"',
+    b"2024-05-02 10:11:12.345 [info] x\n": b'"2024-05-02 10:"',
+    b"\n// Send:\n{}\n": rb'"\n"',
+    b"// Send:\n{}\n": rb'"// Send:\n"',
 }
 
 EXIT_CONTENT = b'{"jsonrpc":"2.0","method":"exit"}'

@@ -60,11 +60,33 @@ has_header rule bytes =
 abbrev pub has_line_ends : List ℕ → Bool
 has_line_ends bytes = begins (codes "lsp-session 1" ++ 13 ∷ []) bytes || begins (codes "lsp-session 2" ++ 13 ∷ []) bytes
 
+-- ---- a trace, which an editor or a server writes of its messages
+
+-- `[Trace - `, `[Info  - `, `[LSP   - `: VS Code, coc.nvim, lsp-mode, gopls, the LSP Inspector
+abbrev pub is_labelled : List ℕ → Bool
+is_labelled bytes = begins (codes "[") bytes && begins (codes " - ") (drop 6 bytes)
+
+-- `2026-11-30 11:34:09.136 [`, `2026-11-30T11:34:09.136 helix_`: VS Code, Helix
+abbrev pub is_dated : List ℕ → Bool
+is_dated bytes = begins (codes "-") (drop 4 bytes) && (begins (codes "-") (drop 7 bytes)
+    && (begins (codes " [") (drop 23 bytes) || begins (codes " helix_") (drop 23 bytes)))
+
+-- `I[11:34:09.136] `: clangd
+abbrev pub is_timed : List ℕ → Bool
+is_timed bytes = begins (codes "[") (drop 1 bytes) && (begins (codes ":") (drop 4 bytes)
+    && (begins (codes ":") (drop 7 bytes) && begins (codes "] ") (drop 14 bytes)))
+
+abbrev pub is_trace : List ℕ → Bool
+is_trace bytes = is_labelled bytes || (is_dated bytes || (is_timed bytes
+    || (begins (codes "{\"isLSPMessage\"") bytes || (begins (codes "// Send:") bytes
+    || begins (codes "\n// Send:") bytes))))
+
 abbrev pub session_hint : List ℕ → Hint
 session_hint bytes =
     if has_line_ends bytes then hints.LineEnds
     else if begins (codes "lsp-session ") bytes then hints.OtherFormat
     else if is_compressed bytes then hints.Compressed
+    else if is_trace bytes then hints.Trace
     else hints.Unknown
 
 -- what an input seems to be that does not begin as a log does
@@ -126,6 +148,7 @@ hint_text hints.LineEnds = codes "the first line ends in CR LF; the lines of a l
 hint_text hints.ByteOrderMark = codes "the input begins with a byte order mark; a log has none"
 hint_text hints.OtherFormat = codes "this version of lspcheck does not know the format of this log"
 hint_text hints.Compressed = codes "the input is compressed: unpack it first"
+hint_text hints.Trace = codes "this looks like a trace: 'recorders/from-trace' makes a log of it"
 hint_text hints.Unknown = codes "a log begins with the line 'lsp-session 2': see docs/LOG_FORMAT.md"
 hint_text hints.NoHeader = codes "a raw stream begins with a header part: 'Content-Length: 52'"
 hint_text hints.OtherDocuments = codes "'lspcheck show --long' shows the URI of each document"

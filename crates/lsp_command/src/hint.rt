@@ -1,10 +1,11 @@
 //! What an input seems to be that is not what the command reads.
-ghost use Rattle.std.specs.Prelude.{◌≡◌, ◌≤◌, length, take};
+ghost use Rattle.std.specs.Prelude.{◌≡◌, ◌≤◌, drop, length, take};
 ghost use Rattle.std.specs.List.{prefix_len};
 ghost use Rattle.lsp_command.specs.Hints.{begins, has_line_ends, is_compressed, is_stream};
 ghost use Rattle.lsp_command.specs.Hints.{has_header, is_field, is_line_byte, is_name_byte};
 ghost use Rattle.lsp_command.specs.Hints.{has_no_header, log_hint, run_hint, session_hint};
-ghost use Rattle.lsp_command.specs.Hints.{hint_of, stream_hint};
+ghost use Rattle.lsp_command.specs.Hints.{hint_of, is_dated, is_labelled, is_timed, is_trace};
+ghost use Rattle.lsp_command.specs.Hints.{stream_hint};
 
 use crate::task_outcome::TaskOutcome;
 use lsp_judge::{EventOutcome, Outcome, RunFault, StreamFault, Verdict};
@@ -28,6 +29,8 @@ pub enum Hint {
     OtherFormat,
     /// A compressed file.
     Compressed,
+    /// A trace, which an editor or a server wrote of its messages.
+    Trace,
     /// None of these, where a log was wanted.
     Unknown,
     /// None of these, where one raw direction of a session was wanted.
@@ -51,6 +54,7 @@ impl fmt::Display for Hint {
             Hint::ByteOrderMark => "the input begins with a byte order mark; a log has none",
             Hint::OtherFormat => "this version of lspcheck does not know the format of this log",
             Hint::Compressed => "the input is compressed: unpack it first",
+            Hint::Trace => "this looks like a trace: 'recorders/from-trace' makes a log of it",
             Hint::Unknown => "a log begins with the line 'lsp-session 2': see docs/LOG_FORMAT.md",
             Hint::NoHeader => "a raw stream begins with a header part: 'Content-Length: 52'",
             Hint::OtherDocuments => "'lspcheck show --long' shows the URI of each document",
@@ -134,6 +138,51 @@ fn has_header(rule: u16, bytes: &[u8]) -> bool
     is_stream(bytes) || !(rule == rules::NOT_ONE_CONTENT_LENGTH) && is_field(bytes)
 }
 
+/// The bytes after so many.
+fn behind(place: usize, bytes: &[u8]) -> &[u8]
+    ensures { result.now ≡ drop place bytes.now }
+{
+    bytes.get(place..).unwrap_or(&[])
+}
+
+/// Whether the bytes begin as a trace does that an editor or a server wrote of its messages.
+fn is_trace(bytes: &[u8]) -> bool
+    ensures { result ≡ is_trace bytes.now }
+{
+    is_labelled(bytes)
+        || is_dated(bytes)
+        || is_timed(bytes)
+        || begins(b"{\"isLSPMessage\"", bytes)
+        || begins(b"// Send:", bytes)
+        || begins(b"\n// Send:", bytes)
+}
+
+/// `[Trace - `, `[Info  - `, `[LSP   - `: VS Code, coc.nvim, lsp-mode, gopls, the LSP Inspector.
+fn is_labelled(bytes: &[u8]) -> bool
+    ensures { result ≡ is_labelled bytes.now }
+{
+    begins(b"[", bytes) && begins(b" - ", behind(6, bytes))
+}
+
+/// `2026-11-30 11:34:09.136 [`, `2026-11-30T11:34:09.136 helix_`: VS Code, Helix.
+fn is_dated(bytes: &[u8]) -> bool
+    ensures { result ≡ is_dated bytes.now }
+{
+    begins(b"-", behind(4, bytes))
+        && begins(b"-", behind(7, bytes))
+        && (begins(b" [", behind(23, bytes)) || begins(b" helix_", behind(23, bytes)))
+}
+
+/// `I[11:34:09.136] `: clangd.
+fn is_timed(bytes: &[u8]) -> bool
+    ensures { result ≡ is_timed bytes.now }
+{
+    begins(b"[", behind(1, bytes))
+        && begins(b":", behind(4, bytes))
+        && begins(b":", behind(7, bytes))
+        && begins(b"] ", behind(14, bytes))
+}
+
 /// Whether the bytes begin with the first line of a log, and CR LF after it.
 fn has_line_ends(bytes: &[u8]) -> bool
     ensures { result ≡ has_line_ends bytes.now }
@@ -169,6 +218,9 @@ fn session_hint(bytes: &[u8]) -> Hint
     }
     if is_compressed(bytes) {
         return Hint::Compressed;
+    }
+    if is_trace(bytes) {
+        return Hint::Trace;
     }
     Hint::Unknown
 }

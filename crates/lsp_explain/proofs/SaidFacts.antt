@@ -26,7 +26,7 @@ use Rattle.lsp_verdict.specs.declared.raw.Raw as lent
 use Rattle.lsp_verdict.specs.declared.raw.Raw.TheVariants as lents
 use Rattle.lsp_verdict.specs.declared.verdict.Who.{Who}
 use Rattle.lsp_facts.specs.EventFacts.{content_facts, AreCallFacts, AreFacts, AreFactsBy}
-use Rattle.lsp_facts.specs.EventFacts.{frame_facts, front_facts, id_in, session_facts}
+use Rattle.lsp_facts.specs.EventFacts.{frame_facts, header_facts, id_in, session_facts}
 use Rattle.lsp_facts.specs.Fact.{Fact, bare_event, content_event, event_line, message_event}
 use Rattle.lsp_facts.proofs.CallBreaks.{by_rule}
 use Rattle.lsp_facts.proofs.SomeFacts.{id_in-outline, message_named, same_line}
@@ -51,7 +51,7 @@ module _ (terms : Terms) (before : List Event) (rule : ℕ) where
       → AreAll rests (broken side code) event facts
   frames_said rests side code event rest facts reads fits says =
       subst (λ (e : Event). AreAll rests (broken side code) e facts) (sym reads)
-      (facts, says ∙ ap front_facts fits, sym (append-nil facts))
+      (facts, says ∙ ap header_facts fits, sym (append-nil facts))
 
   -- a content that is no message
   pub unread_said : (rests : Rests) (side : Side) (bytes behind : List ℕ) (event : Event)

@@ -14,7 +14,7 @@ use Rattle.lsp_verdict.specs.Survey.{first_verdict, bad_lines, found_line}
 use Rattle.lsp_verdict.specs.Verdict.{Verdict, yes, no, bad_log, Summary}
 use Rattle.lsp_verdict.specs.Verdict.{no_by}
 use Rattle.lsp_verdict.specs.declared.offence.Offence as code
-use Rattle.lsp_facts.specs.EventFacts.{AreFacts, side_by, front_facts}
+use Rattle.lsp_facts.specs.EventFacts.{AreFacts, header_facts, side_by}
 use Rattle.lsp_facts.specs.Fact.{Fact, detail_lines, event_line, end_event, usual, usual_inside}
 use Rattle.lsp_facts.specs.Fact.{usual_of}
 use Rattle.lsp_replay.specs.declared.heard.EventPlace.{EventPlace}
@@ -80,7 +80,7 @@ end_line (bad_log at code) = []
 abbrev pub end_facts : Rests → List Numbered → Verdict → List Fact
 end_facts rests said (no rule by count event) =
     if rule == rules.STREAM_ENDS_INSIDE_FRAME
-    then front_facts (rest_of rests (side_by by)) else lack_traced said
+    then header_facts (rest_of rests (side_by by)) else lack_traced said
 end_facts rests said (yes s) = []
 end_facts rests said (bad_log at code) = []
 

@@ -16,6 +16,7 @@ pub mod Rearranged
 pub mod RightFrom
 pub mod OtherLines
 pub mod Told
+pub mod OlderEncoding
 pub mod Traced
 pub mod AsciiLines
 pub mod Uncompared

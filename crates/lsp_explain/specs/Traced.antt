@@ -8,7 +8,7 @@ use Rattle.std.specs.Fmt.{signed_decimal}
 use Rattle.std.specs.Str.{bytes_eq}
 use Rattle.std.specs.Str.Parse.{signed_digits_value}
 use Rattle.std.specs.List.{prefix_len, flat_map}
-use Rattle.std.specs.Ordering.{int_eq}
+use Rattle.std.specs.Int.{int_gap}
 use Rattle.lsp_rpc.specs.Ident as ident
 use Rattle.lsp_rpc.specs.Ident.{Ident}
 use Rattle.lsp_rpc.specs.Shape.{small}
@@ -37,10 +37,11 @@ use Rattle.lsp_session.specs.Sent.{other_side}
 use Rattle.lsp_explain.specs.Fits.{most_named}
 use Rattle.lsp_explain.specs.History.{last_ones, OnDocument, KeptCall}
 use Rattle.lsp_explain.specs.Marking.{next_rank, rank_or, agreed, last_setter, recent, steps}
-use Rattle.lsp_explain.specs.Marking.{waiting_for}
+use Rattle.lsp_explain.specs.Marking.{is_set_to, waiting_for}
 use Rattle.lsp_explain.specs.declared.trail.mark.VersionEvent.{VersionEvent}
 use Rattle.lsp_explain.specs.declared.suspects.Until.{Until}
 use Rattle.lsp_explain.specs.declared.suspects.Until.TheVariants as until
+use Rattle.lsp_explain.specs.OlderEncoding.{older_traced}
 use Rattle.lsp_explain.specs.Openings.{closing_of, closings, last_on, most_openings, openings}
 use Rattle.lsp_explain.specs.Saves.{saved_unopened}
 use Rattle.lsp_explain.specs.LastChange.{SentChange, has_changes, last_change}
@@ -206,23 +207,36 @@ is_below number setter = int_lt setter.version number
 abbrev pub same_facts : EventPlace → List Edit → Option SentChange → List Fact
 same_facts p edits last = if has_changes p edits last then cited (codes "same") p ∷ [] else []
 
--- the message that set a greater version, where this many are known that set a lesser one
-abbrev pub precedes_facts : ℕ → VersionEvent → List Fact
-precedes_facts below setter =
-    if below == 0 then []
-    else version_by (codes "precedes") setter.version setter.place ∷ []
+-- the one version is that right after the other
+abbrev pub is_next : ℤ → ℤ → Bool
+is_next number other = int_gap number other == 1
 
--- the first of the messages that set this version or a greater one
-abbrev pub setter_facts : ℤ → List Edit → Option SentChange → ℕ → Option VersionEvent → List Fact
-setter_facts number edits last below None = []
-setter_facts number edits last below (Some setter) =
-    if int_eq setter.version number then same_facts setter.place edits last
-    else precedes_facts below setter
+-- the version is the only one between those that these messages set
+abbrev pub is_between : Option VersionEvent → ℤ → VersionEvent → Bool
+is_between None number later = false
+is_between (Some earlier) number later =
+    is_next earlier.version number && is_next number later.version
+
+-- the message that set the version right after this one, where the other set the one right before
+abbrev pub precedes_facts : ℤ → Option VersionEvent → VersionEvent → List Fact
+precedes_facts number earlier setter =
+    if is_between earlier number setter
+    then version_by (codes "precedes") setter.version setter.place ∷ [] else []
+
+-- the first of the messages that set this version or a greater one, after the last that set a
+-- lesser one
+abbrev pub setter_facts : ℤ → List Edit → Option SentChange → Option VersionEvent
+    → Option VersionEvent → List Fact
+setter_facts number edits last earlier None = []
+setter_facts number edits last earlier (Some setter) =
+    if is_set_to number setter then same_facts setter.place edits last
+    else precedes_facts number earlier setter
 
 abbrev pub unrisen_facts : ℤ → List Edit → Option SentChange → List VersionEvent → List Fact
 unrisen_facts number edits last done =
     let below = prefix_len (is_below number) done in
-    setter_facts number edits last below (slice_get (drop below done) 0)
+    setter_facts number edits last (last_setter (take below done))
+    (slice_get (drop below done) 0)
 
 -- of a call that changes a document
 abbrev pub change_traced : Terms → List Event → Call → List Fact
@@ -231,8 +245,8 @@ change_traced terms before (changes enc kind uri number edits) =
 change_traced terms before _ = []
 
 -- **the message of this opening that set the version of such a call, if it is the last one that
--- changed a document, and has the same changes**; where none set it, the first that set a greater
--- one
+-- changed a document, and has the same changes**; where none set it, the one that set the version
+-- right after it, if one set that right before it, too
 abbrev pub unrisen_traced : Terms → List Event → ℕ → Call → List Fact
 unrisen_traced terms before rule call =
     if rule == rules.VERSION_DOES_NOT_RISE then change_traced terms before call else []
@@ -306,11 +320,12 @@ apart_traced terms before p rule call =
     ++ apart_said terms before rule limit call
     else (if rule == rules.SAVED_TEXT_DIFFERS then apart_said terms before rule limit call else [])
 
--- the events that brought such a call, with what is said about a document that is not open
+-- the events that brought such a call, with what is said about a document that is not open, and
+-- the encoding that was named in the older way
 abbrev pub call_traced : Terms → List Event → EventPlace → ℕ → Call → List Fact
 call_traced terms before p rule call =
     apart_traced terms before p rule call ++ unopened_traced terms before rule (uri_of call)
-    ++ unrisen_traced terms before rule call
+    ++ unrisen_traced terms before rule call ++ older_traced terms before rule
 
 -- those that brought what an event says about a document
 abbrev pub said_traced : Terms → List Event → Event → ℕ → List Fact

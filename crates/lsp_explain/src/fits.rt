@@ -166,7 +166,7 @@ pub(crate) fn push_fitting(
 }
 
 /// The encodings other than this one.
-fn others(encoding: Encoding) -> (Encoding, Encoding)
+pub(crate) fn others(encoding: Encoding) -> (Encoding, Encoding)
     ensures { spec.both result ≡ spec.other_encodings encoding }
 {
     match encoding {

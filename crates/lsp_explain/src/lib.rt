@@ -15,6 +15,7 @@ mod laws;
 mod naming;
 mod notes;
 mod offence_facts;
+mod older_encoding;
 mod other_lines;
 mod rearranged;
 mod right_from;

@@ -30,7 +30,7 @@ use crate::trace::{lack_traced, message_traced, said_traced};
 use crate::trail::Past;
 use lsp_docs::Tried;
 use lsp_facts::{
-    Facts, content_facts, flaw_facts, frame_facts, front_facts, push_bare_event,
+    Facts, content_facts, flaw_facts, frame_facts, header_facts, push_bare_event,
     push_content_event, push_details, push_end_event, push_message_event, usual, usual_inside,
 };
 use lsp_replay::{End, EventPlace, LogEvents, Seen};
@@ -199,7 +199,7 @@ fn end_facts(past: Past<'_>, rest: &[u8], rule: u16) -> Result<Facts>
         (no rule who number event)) }
 {
     if rule == rules::STREAM_ENDS_INSIDE_FRAME {
-        return front_facts(past.held.docs.alloc(), rest);
+        return header_facts(past.held.docs.alloc(), rest);
     }
     lack_traced(past)
 }

@@ -26,6 +26,7 @@ ghost use Rattle.lsp_explain.specs.Trails.{StandsAfter, terms_in};
 ghost use Rattle.lsp_explain.specs.Traced as spec;
 ghost use Rattle.lsp_explain.specs.Traced.{twin};
 
+use crate::older_encoding::trace_older;
 use crate::suspects::{Until, push_suspects};
 use crate::told::push_told;
 use crate::trail::{Conversation, Marks, Past, VersionEvent};
@@ -122,6 +123,7 @@ fn call_traced(
     trace_call(&mut facts, past, place, call, rule, tried)?;
     trace_unopened(&mut facts, past, call, rule)?;
     trace_unrisen(&mut facts, past, call, rule)?;
+    trace_older(&mut facts, past, rule)?;
     Ok(facts)
 }
 

@@ -3,7 +3,7 @@ ghost use Rattle.std.specs.Prelude.{◌≡◌, ◌≤◌, ◌++◌, List, OnOk, 
 ghost use Rattle.std.specs.List.{prefix_len};
 ghost use Rattle.lsp_docs.specs.Documents.{Terms};
 ghost use Rattle.lsp_docs.specs.Taken.{call_view};
-ghost use Rattle.lsp_explain.specs.Marking.{recent, steps};
+ghost use Rattle.lsp_explain.specs.Marking.{is_set_to, last_setter, recent, steps};
 ghost use Rattle.lsp_explain.specs.LastChange.{IsLastChange, last_change};
 ghost use Rattle.lsp_explain.specs.Traced as spec;
 ghost use Rattle.lsp_explain.specs.Trails.{StandsAfter, terms_in};
@@ -19,7 +19,8 @@ use lsp_types::{Change, rules};
 
 /// Adds to the facts on a call that breaks this rule, under 603, the message that set its version,
 /// if that is the last one that changed a document, and has the same changes; or, where none set
-/// it, the first that set a greater one. The past is of the events before it.
+/// it, the one that set the version right after it, if one set that right before it, too. The past
+/// is of the events before it.
 pub(crate) fn trace_unrisen(
     facts: &mut Facts,
     past: Past<'_>,
@@ -77,31 +78,40 @@ fn push_unrisen(
         (last_change terms before) setters.now) }
 {
     let below = count_below(version, setters);
+    let earlier = last_of(&setters[..below]);
     match setters[below..].first() {
-        Some(setter) => push_setter(facts, last, version, changes, below, *setter),
+        Some(setter) => push_setter(facts, last, version, changes, earlier, *setter),
         None => Ok(()),
     }
 }
 
 /// Adds the message that set this version, if it is the last one that changed a document and has
-/// the same changes, or that set a greater one. So many are known that set a lesser one.
+/// the same changes, or that set the version right after it, if the earlier one set that right
+/// before it.
 fn push_setter(
     facts: &mut Facts,
     last: &LastChange,
     version: i32,
     changes: &[Change],
-    below: usize,
+    earlier: Option<VersionEvent>,
     setter: VersionEvent,
 ) -> Result<()>
     ensures { OnOk result ((terms : Terms) (before : List Event)
         → IsLastChange terms last.now before
         → facts.new ≡ facts.old ++ spec.setter_facts version (edits_of changes.now)
-        (last_change terms before) below (Some setter)) }
+        (last_change terms before) earlier (Some setter)) }
 {
-    if setter.version == version {
+    if is_set_to(version, setter) {
         return push_same(facts, last, setter.place, changes);
     }
-    push_precedes(facts, below, setter)
+    push_precedes(facts, version, earlier, setter)
+}
+
+/// Whether the message set this version.
+fn is_set_to(version: i32, setter: VersionEvent) -> bool
+    ensures { result ≡ is_set_to version setter }
+{
+    setter.version == version
 }
 
 /// How many of the messages come before the first that set this version or a greater one.
@@ -113,6 +123,13 @@ fn count_below(version: i32, setters: &[VersionEvent]) -> usize
         .iter()
         .take_while(|setter| setter.version < version)
         .count()
+}
+
+/// The last of these messages.
+fn last_of(setters: &[VersionEvent]) -> Option<VersionEvent>
+    ensures { result ≡ last_setter setters.now }
+{
+    setters.last().copied()
 }
 
 /// Adds the event of this place, if it is the last message that changed a document, and has the
@@ -134,12 +151,35 @@ fn push_same(
     facts.event("same", place)
 }
 
-/// Adds the message that set a greater version, if the one before it is known.
-fn push_precedes(facts: &mut Facts, below: usize, setter: VersionEvent) -> Result<()>
-    ensures { OnOk result (facts.new ≡ facts.old ++ spec.precedes_facts below setter) }
+/// Adds the message that set the version right after this one, if the earlier one set that right
+/// before it.
+fn push_precedes(
+    facts: &mut Facts,
+    version: i32,
+    earlier: Option<VersionEvent>,
+    setter: VersionEvent,
+) -> Result<()>
+    ensures { OnOk result (facts.new ≡ facts.old ++ spec.precedes_facts version earlier setter) }
 {
-    if below == 0 {
+    if !is_between(earlier, version, setter) {
         return Ok(());
     }
     facts.version_by("precedes", setter.version, setter.place)
+}
+
+/// Whether the version is the only one between those that these messages set.
+fn is_between(earlier: Option<VersionEvent>, version: i32, later: VersionEvent) -> bool
+    ensures { result ≡ spec.is_between earlier version later }
+{
+    match earlier {
+        Some(earlier) => is_next(earlier.version, version) && is_next(version, later.version),
+        None => false,
+    }
+}
+
+/// Whether the one version is that right after the other.
+fn is_next(version: i32, other: i32) -> bool
+    ensures { result ≡ spec.is_next version other }
+{
+    version < other && version.abs_diff(other) == 1
 }

@@ -37,6 +37,7 @@ use Rattle.lsp_log.specs.declared.fault.LogCode.{LogCode}
 use Rattle.lsp_docs.specs.Calls.{Call}
 use Rattle.lsp_docs.specs.Documents.{Terms}
 use Rattle.lsp_facts.specs.Fact.{Fact, in_phase, more_words, spaced, content_message}
+use Rattle.lsp_facts.specs.FrameFronts.{ends_with_lf}
 use Rattle.lsp_facts.specs.Members.{Pointer, wrong_result, wrong_member}
 use Rattle.lsp_facts.specs.Grammar.{json_break}
 use Rattle.lsp_facts.specs.DocumentFacts.{AreDocumentFacts}
@@ -215,10 +216,18 @@ side_by who.Editor = Editor
 side_by who.Server = Server
 side_by who.Snapshot = Editor
 
+abbrev pub ending_facts : List ℕ → List Fact
+ending_facts bytes =
+    if ends_with_lf bytes then line (codes "header-ends" ∷ codes "lf" ∷ []) ∷ [] else []
+
+-- how a header part begins, and how its first line ends, where that is with LF alone
+abbrev pub header_facts : List ℕ → List Fact
+header_facts bytes = front_facts bytes ++ ending_facts bytes
+
 -- 101 to 106 lie in a header part, found in these bytes; the bytes after it are not looked
 -- at, since more of them may follow. 107 describes all that there is of the last frame
 abbrev pub frame_facts : List ℕ → List Fact
-frame_facts rest = front_facts (header_front rest)
+frame_facts rest = header_facts (header_front rest)
 
 -- ---- logs
 

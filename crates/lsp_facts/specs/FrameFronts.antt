@@ -1,7 +1,10 @@
--- Whether a frame that is not whole can become one.
+-- Whether a frame that is not whole can become one, and how the lines of its header part end.
 use Rattle.std.specs.Prelude.{◌||◌, ◌&&◌, ◌==◌, ◌-◌, ℕ, nat_lt, List, [], ◌∷◌, length, take, drop}
-use Rattle.std.specs.Prelude.{slice_get, Bool, true, false, Option, Some, None, not}
-use Rattle.std.specs.List.{list_all, prefix_len, slice_split}
+use Rattle.std.specs.Prelude.{slice_get, Bool, true, false, Option, Some, None, not, map, codes}
+use Rattle.std.specs.Prelude.{option_map, unwrap_or}
+use Rattle.std.specs.Char.{to_ascii_lowercase}
+use Rattle.std.specs.List.{list_all, position, prefix_len, slice_split}
+use Rattle.std.specs.Str.{bytes_eq}
 use Rattle.lsp_frame.specs.Header.{is_text, is_token}
 
 -- ---- a line of a header part (RFC 9110, sections 5.5 and 5.6.2)
@@ -62,3 +65,17 @@ begins_with_cr bytes = is_cr (slice_get bytes 0)
 -- which the first is a field, since one at least gives the length of the content
 abbrev pub may_go_on : List ℕ → Bool
 may_go_on rest = not (begins_with_cr rest) && are_header_lines rest
+
+-- ---- a line that ends with LF alone
+
+abbrev pub has_own_name : List ℕ → Bool
+has_own_name front = bytes_eq (map to_ascii_lowercase front) (codes "content-")
+
+-- a field of LSP's own (LSP 3.17, "Base Protocol"), whose name is written in any case; it has no CR
+abbrev pub is_own_field : List ℕ → Bool
+is_own_field line = has_own_name (take 8 line) && is_field line
+
+-- **the first line is such a field**, up to its LF
+abbrev pub ends_with_lf : List ℕ → Bool
+ends_with_lf bytes =
+    unwrap_or (option_map (λ n. is_own_field (take n bytes)) (position is_lf bytes)) false

@@ -37,7 +37,19 @@ row_for (row ∷ others) lines = if holds row lines then Some row else row_for o
 -- nothing
 unfoldable pub rows : List Row
 rows =
-    says (codes "fits utf-8\n") (codes "inside ")
+    says (codes "offset-encoding utf-8\n") (codes "fits utf-8")
+    (codes "The editor seems to count columns in utf-8, which only the older offsetEncoding names.")
+    ∷ says (codes "offset-encoding utf-16\n") (codes "fits utf-16")
+    (codes "The editor seems to count columns in utf-16, which only the older offsetEncoding names.")
+    ∷ says (codes "offset-encoding utf-32\n") (codes "fits utf-32")
+    (codes "The editor seems to count columns in utf-32, which only the older offsetEncoding names.")
+    ∷ says (codes "offset-encoding utf-16\n") (codes "fits utf-8 utf-16\n")
+    (codes "The editor seems to count columns in utf-16, which only the older offsetEncoding names.")
+    ∷ says (codes "offset-encoding utf-32\n") (codes "fits utf-8 utf-32\n")
+    (codes "The editor seems to count columns in utf-32, which only the older offsetEncoding names.")
+    ∷ says (codes "offset-encoding utf-32\n") (codes "fits utf-16 utf-32\n")
+    (codes "The editor seems to count columns in utf-32, which only the older offsetEncoding names.")
+    ∷ says (codes "fits utf-8\n") (codes "inside ")
     (codes "The editor may split a character, or count columns in utf-8, which was not agreed.")
     ∷ says (codes "fits utf-16\n") (codes "inside ")
     (codes "The editor may split a character, or count columns in utf-16, which was not agreed.")
@@ -69,8 +81,7 @@ rows =
     (codes "The editor may count all ranges of a message in the text before it.")
     ∷ says (codes "exchanged ") []
     (codes "The editor may have sent two messages in the wrong order.")
-    ∷ says (codes "without ") []
-    (codes "The editor may have sent a change that it did not make.")
+    ∷ says (codes "without ") [] (codes "The editor may have sent a change that it did not make.")
     ∷ says (codes "ends converted ") []
     (codes "Only line ends differ: each is written in another way.")
     ∷ says (codes "ends last\n") [] (codes "Only the line end at the very end differs.")
@@ -83,6 +94,8 @@ rows =
     (codes "The text may have changed without a message, or the snapshot may be of another moment.")
     ∷ says (codes "suspects 1\n") (codes "equal ")
     (codes "Either one message is wrong, or one change was never sent.")
+    ∷ says (codes "header-ends lf\n") []
+    (codes "A header line ends with LF alone; it has to end with CR LF.")
     ∷ says (codes "counts ") []
     (codes "The header seems to count characters; it has to count bytes.")
     ∷ says (codes "whole ") [] (codes "The header says fewer bytes than the content has.")
@@ -93,8 +106,7 @@ rows =
     (codes "The editor closed this document, saved it later, and did not open it again.")
     ∷ says (codes "saved-as ") []
     (codes "The editor saved a document under this name, and did not open it.")
-    ∷ says (codes "similar ") []
-    (codes "A document is open under another spelling of this URI.")
+    ∷ says (codes "similar ") [] (codes "A document is open under another spelling of this URI.")
     ∷ says (codes "opened never\n") [] (codes "The document was never opened.")
     ∷ says (codes "open ") []
     (codes "The id is a text where that of the request is a number, or the reverse.")
@@ -115,7 +127,13 @@ so_lines lines = so_line (row_for rows lines)
 -- **those whose fault it is, whatever the rule**, in the same way
 unfoldable pub blames : List Row
 blames =
-    says (codes "suspects 0\n") (codes "in-editor ") (codes "editor or recorder") ∷ []
+    says (codes "offset-encoding utf-8\n") (codes "fits utf-8") (codes "outside")
+    ∷ says (codes "offset-encoding utf-16\n") (codes "fits utf-16") (codes "outside")
+    ∷ says (codes "offset-encoding utf-32\n") (codes "fits utf-32") (codes "outside")
+    ∷ says (codes "offset-encoding utf-16\n") (codes "fits utf-8 utf-16\n") (codes "outside")
+    ∷ says (codes "offset-encoding utf-32\n") (codes "fits utf-8 utf-32\n") (codes "outside")
+    ∷ says (codes "offset-encoding utf-32\n") (codes "fits utf-16 utf-32\n") (codes "outside")
+    ∷ says (codes "suspects 0\n") (codes "in-editor ") (codes "editor or recorder") ∷ []
 
 -- by the first of these rows both of whose lines are said, if there is one; else that of those
 -- given

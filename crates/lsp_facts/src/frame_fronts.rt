@@ -1,5 +1,5 @@
-//! Whether a frame that is not whole can become one.
-ghost use Rattle.std.specs.Prelude.{◌≡◌, ◌≤◌, ◌<◌, ◌+◌, drop, length, IfSome};
+//! Whether a frame that is not whole can become one, and how the lines of its header part end.
+ghost use Rattle.std.specs.Prelude.{◌≡◌, ◌≤◌, ◌<◌, ◌+◌, drop, length, take, IfSome};
 ghost use Rattle.std.specs.List.{list_all, prefix_len, position};
 ghost use Rattle.lsp_facts.specs.FrameFronts as spec;
 ghost use Rattle.lsp_frame.specs.Header.{is_text as text, is_token as token};
@@ -37,6 +37,37 @@ fn are_header_lines(rest: &[u8]) -> bool
         left = rest_after(left, size);
     }
     is_line_front(left)
+}
+
+/// Whether the first line is a field of LSP's own (LSP 3.17, "Base Protocol") that ends with LF
+/// alone.
+pub(crate) fn ends_with_lf(bytes: &[u8]) -> bool
+    ensures { result ≡ spec.ends_with_lf bytes.now }
+{
+    match line_len(bytes) {
+        Some(size) => is_own_field(&bytes[..size]),
+        None => false,
+    }
+}
+
+/// Whether it is a field of LSP's own, whose name is written in any case.
+fn is_own_field(line: &[u8]) -> bool
+    ensures { result ≡ spec.is_own_field line.now }
+{
+    has_own_name(eight(line)) && is_field(line)
+}
+
+fn has_own_name(front: &[u8]) -> bool
+    ensures { result ≡ spec.has_own_name front.now }
+{
+    front.eq_ignore_ascii_case(b"content-")
+}
+
+/// The first eight bytes, or all of fewer.
+fn eight(bytes: &[u8]) -> &[u8]
+    ensures { result.now ≡ take 8 bytes.now }
+{
+    &bytes[..bytes.len().min(8)]
 }
 
 /// The bytes after a line that is so long, and its LF.

@@ -4,7 +4,7 @@
 //! [`Facts`] are the lines that an explanation says about an event. [`session_facts`] are on a
 //! message that breaks a rule of the session, and [`call_facts`] on a call that breaks one on
 //! documents. [`content_facts`] are on a content that is not a message or has params of another
-//! shape, [`frame_facts`] on a stream whose frames have a fault, [`front_facts`] on one that ends
+//! shape, [`frame_facts`] on a stream whose frames have a fault, [`header_facts`] on one that ends
 //! inside a frame, [`flaw_facts`] on a log that has a fault.
 //! [`refuting`] finds the snapshots whose texts refute a call, and [`texts_of`] and [`texts_at`]
 //! give two whole texts that differ. [`push_details`] adds facts to a text, and
@@ -43,7 +43,7 @@ pub use contents::content_facts;
 pub use documents::call_facts;
 pub use earlier::Earlier;
 pub use facts::{Facts, push_facts};
-pub use faults::{flaw_facts, frame_facts};
+pub use faults::{flaw_facts, frame_facts, header_facts};
 pub use laws::{
     bad_params_have_a_member, bad_result_has_a_member, compared_texts_differ, whole_texts_are_json,
 };
@@ -51,6 +51,6 @@ pub use lent_text::LentText;
 pub use lines::{
     push_bare_event, push_content_event, push_details, push_end_event, push_message_event,
 };
-pub use messages::{front_facts, id_in, session_facts};
+pub use messages::{id_in, session_facts};
 pub use two_texts::{TwoTexts, texts_at, texts_of};
 pub use waiting::refuting;

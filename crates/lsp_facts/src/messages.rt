@@ -64,7 +64,7 @@ pub(crate) fn shown(bytes: &[u8], most: usize) -> &str
 ///
 /// # Errors
 /// `Memory` where memory was refused.
-pub fn front_facts(alloc: Global, bytes: &[u8]) -> Result<Facts>
+pub(crate) fn front_facts(alloc: Global, bytes: &[u8]) -> Result<Facts>
     ensures { IfOk result (λ facts. facts ≡ spec.front_facts bytes.now) }
 {
     let mut facts = Facts::new(alloc);

@@ -11,7 +11,37 @@ use lsp_rpc::{Result, push_quoted};
 pub(crate) type Row = (&'static str, &'static str, &'static str);
 
 /// The first row whose lines are there has the sentence.
-pub(crate) const ROWS: [Row; 35] = [
+pub(crate) const ROWS: [Row; 42] = [
+    (
+        "offset-encoding utf-8\n",
+        "fits utf-8",
+        "The editor seems to count columns in utf-8, which only the older offsetEncoding names.",
+    ),
+    (
+        "offset-encoding utf-16\n",
+        "fits utf-16",
+        "The editor seems to count columns in utf-16, which only the older offsetEncoding names.",
+    ),
+    (
+        "offset-encoding utf-32\n",
+        "fits utf-32",
+        "The editor seems to count columns in utf-32, which only the older offsetEncoding names.",
+    ),
+    (
+        "offset-encoding utf-16\n",
+        "fits utf-8 utf-16\n",
+        "The editor seems to count columns in utf-16, which only the older offsetEncoding names.",
+    ),
+    (
+        "offset-encoding utf-32\n",
+        "fits utf-8 utf-32\n",
+        "The editor seems to count columns in utf-32, which only the older offsetEncoding names.",
+    ),
+    (
+        "offset-encoding utf-32\n",
+        "fits utf-16 utf-32\n",
+        "The editor seems to count columns in utf-32, which only the older offsetEncoding names.",
+    ),
     (
         "fits utf-8\n",
         "inside ",
@@ -129,6 +159,11 @@ pub(crate) const ROWS: [Row; 35] = [
         "Either one message is wrong, or one change was never sent.",
     ),
     (
+        "header-ends lf\n",
+        "",
+        "A header line ends with LF alone; it has to end with CR LF.",
+    ),
+    (
         "counts ",
         "",
         "The header seems to count characters; it has to count bytes.",
@@ -174,7 +209,19 @@ pub(crate) const ROWS: [Row; 35] = [
 ];
 
 /// Whose fault it usually is, whatever the rule, where these lines are there.
-pub(crate) const BLAMES: [Row; 1] = [("suspects 0\n", "in-editor ", "editor or recorder")];
+pub(crate) const BLAMES: [Row; 7] = [
+    ("offset-encoding utf-8\n", "fits utf-8", "outside"),
+    ("offset-encoding utf-16\n", "fits utf-16", "outside"),
+    ("offset-encoding utf-32\n", "fits utf-32", "outside"),
+    ("offset-encoding utf-16\n", "fits utf-8 utf-16\n", "outside"),
+    ("offset-encoding utf-32\n", "fits utf-8 utf-32\n", "outside"),
+    (
+        "offset-encoding utf-32\n",
+        "fits utf-16 utf-32\n",
+        "outside",
+    ),
+    ("suspects 0\n", "in-editor ", "editor or recorder"),
+];
 
 /// Whose fault it usually is by these facts, where a row says so; else it is this side's, or who
 /// else is named here.

@@ -6,7 +6,7 @@ pub(crate) type Row = (&'static str, &'static str);
 
 /// The rows of the lines of a report: of events, of a verdict, of a log that was not judged, of
 /// details, and of notes. Those of events come first, since they take most lines of a long report.
-pub(crate) const ROWS: [Row; 117] = [
+pub(crate) const ROWS: [Row; 119] = [
     (
         "notification",
         "event=* side=* notification method=* number=* uri=* version=*",
@@ -61,6 +61,7 @@ pub(crate) const ROWS: [Row; 117] = [
     ("event", "event event=* side=* number=* kind=result id=*"),
     ("end", "end event=* side=*"),
     ("begins", "begins text=*"),
+    ("header-ends", "header-ends name=*"),
     ("before", "before text=*"),
     ("after", "after text=*"),
     ("saved", "saved text=*"),
@@ -113,6 +114,7 @@ pub(crate) const ROWS: [Row; 117] = [
     ("exchanged", "exchanged version=* @"),
     ("without", "without version=* @"),
     ("right-from", "right-from version=* @"),
+    ("offset-encoding", "offset-encoding name=*"),
     ("closed", "closed @"),
     ("opened", "opened never"),
     ("saved-as", "saved-as @"),

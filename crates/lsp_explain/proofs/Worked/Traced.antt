@@ -238,6 +238,21 @@ unfolding value punctuate lex content word after_number number_of scan_numeral c
     escape_byte
 exchanged = refl
 
+-- more than one version is missing there
+not_all_of_the_gap : with_events 603
+    (START ++ OPEN (codes "1") (codes "ab") ∷ PUT (codes "4") (codes "x") ∷ [])
+    (PUT (codes "2") (codes "x")) ≡ []
+unfolding value punctuate lex content word after_number number_of scan_numeral chars digits
+    escape_byte
+not_all_of_the_gap = refl
+
+not_from_its_beginning : with_events 603
+    (START ++ OPEN (codes "1") (codes "ab") ∷ PUT (codes "4") (codes "x") ∷ [])
+    (PUT (codes "3") (codes "x")) ≡ []
+unfolding value punctuate lex content word after_number number_of scan_numeral chars digits
+    escape_byte
+not_from_its_beginning = refl
+
 -- the first one opened it
 below_the_first : with_events 603
     (START ++ OPEN (codes "5") (codes "ab") ∷ PUT (codes "6") (codes "x") ∷ [])

@@ -13,7 +13,7 @@ use Rattle.lsp_log.specs.Log.{chunk}
 use Rattle.lsp_log.specs.declared.fault.LogCode.TheVariants.{L2}
 use Rattle.lsp_facts.specs.EventFacts.{frame_facts, log_facts, front_facts}
 use Rattle.lsp_facts.specs.Fact.{fact_lines}
-use Rattle.lsp_facts.specs.FrameFronts.{may_go_on}
+use Rattle.lsp_facts.specs.FrameFronts.{ends_with_lf, may_go_on}
 
 -- the header part alone, whatever follows
 a_misspelt_field : fact_lines (frame_facts (codes "Content-Lenght: 2\r\n\r\n{}Content")) ≡ codes "begins \"Content-Lenght: 2\\r\\n\\r\\n\"\n"
@@ -61,3 +61,18 @@ printed = refl
 
 nothing_there : may_go_on [] ≡ true
 nothing_there = refl
+
+-- ---- how the lines of a header part end
+
+a_line_feed : ends_with_lf (codes "content-length: 2\n\n{}") ≡ true
+a_line_feed = refl
+
+both : ends_with_lf (codes "Content-Length: 2\r\n\r\n{}") ≡ false
+both = refl
+
+-- a field of another name may be what a program prints
+a_warning : ends_with_lf (codes "warning: no index\n") ≡ false
+a_warning = refl
+
+no_line_end : ends_with_lf (codes "Content-Length: 2") ≡ false
+no_line_end = refl

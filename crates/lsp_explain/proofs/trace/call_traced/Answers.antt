@@ -8,6 +8,7 @@ use Rattle.lsp_verdict.specs.Offences.{kept_of}
 use Rattle.lsp_facts.specs.DocumentFacts.{AreDocumentFacts}
 use Rattle.lsp_facts.specs.EventFacts.{AreCallFacts}
 use Rattle.lsp_explain.specs.Trails.{terms_in}
+use Rattle.lsp_explain.specs.OlderEncoding.{older_traced}
 use Rattle.lsp_explain.specs.Traced.{earlier_of, unopened_traced, unrisen_traced}
 use Rattle.lsp_explain.proofs.trace.call_traced.Goals as goal
 
@@ -27,11 +28,14 @@ returns c = λ before stands breaks tried.
           ∙ ap (earlier_of terms before) c.uri.ensures)
           (subst (λ e. AreDocumentFacts terms e (calls kept) call rule earlier plain) agreed
           (c.in_ok-facts.ensures (calls kept) stands.holds.called breaks tried)),
-      c.in_ok-trace_unrisen.ensures before stands
+      c.in_ok-trace_older.ensures before stands
+          ∙ ap (λ l. l ++ older_traced terms before rule)
+          (c.in_ok-trace_unrisen.ensures before stands
           ∙ ap (λ l. l ++ unrisen_traced terms before rule call)
           (c.in_ok-trace_unopened.ensures before stands
           ∙ ap (λ l. l ++ unopened_traced terms before rule (uri_of call))
           (c.in_ok-trace_call.ensures before stands breaks tried)
           ∙ append_assoc plain _ (unopened_traced terms before rule (uri_of call)))
-          ∙ append_assoc plain _ (unrisen_traced terms before rule call),
+          ∙ append_assoc plain _ (unrisen_traced terms before rule call))
+          ∙ append_assoc plain _ (older_traced terms before rule),
     )
