@@ -64,7 +64,8 @@ const TEXT_RULES = [601, 602, 603, 604, 605, 606, 607, 608, 702];
 function mayCause(cause, effect) {
   const [before, after] = [rowOfEvent(cause.event), rowOfEvent(effect.event)];
   if (TEXT_RULES.includes(effect.rule)) {
-    return before !== undefined && after !== undefined && before.document === after.document;
+    return cause.rule === 504
+      || before !== undefined && after !== undefined && before.document === after.document;
   }
   if (FRAME_RULES.includes(effect.rule)) {
     return cause.rule === 201 && cause.who === effect.who;

@@ -1,12 +1,13 @@
 -- What is lost after one event more.
 use Rattle.std.specs.Borrow.{Bor}
-use Rattle.std.specs.Prelude.{ℤ, ◌||◌, chars, if◌then◌else◌, is_some, option_and_then, option_map}
+use Rattle.std.specs.Prelude.{ℤ, ◌&&◌, ◌||◌, chars, if◌then◌else◌, is_some, option_and_then, option_map}
 use Rattle.std.specs.Prelude.{unwrap_or}
 use Rattle.std.proofs.Common.{◌≡◌, ℕ, Bool, true, false, List, [], ◌∷◌, ◌++◌, Option, Some, None}
 use Rattle.std.proofs.Common.{refl, sym, ap, subst, ◌∙◌}
+use Rattle.std.proofs.Math.Bool.{and-false, and-true}
 use Rattle.std.proofs.lemmas.List.{map-append}
 use Rattle.lsp_docs.specs.State as docs
-use Rattle.lsp_docs.specs.Calls.{Call, shows}
+use Rattle.lsp_docs.specs.Calls.{Call, shows, uri_of}
 use Rattle.lsp_docs.specs.Documents.{Terms}
 use Rattle.lsp_rpc.specs.Ident.{id_view}
 use Rattle.lsp_rpc.specs.Message.{Message}
@@ -18,7 +19,7 @@ use Rattle.lsp_replay.specs.Standing.{Holds}
 use Rattle.lsp_replay.specs.Telling.{MaySpeak, Stood, kept_before, rule_of}
 use Rattle.lsp_replay.proofs.Seeing.{events-push}
 use Rattle.lsp_survey.specs.Lost.{AreLosses, HoldsSent, IsMessageOf, IsNotedIn, WasTold}
-use Rattle.lsp_survey.specs.Lost.{breaks_by, follows_of, unheard_with}
+use Rattle.lsp_survey.specs.Lost.{breaks_by, follows_of, unheard_with, unsynced_with}
 use Rattle.lsp_survey.specs.Notes.{AreAfter, Leaves, has_passed, is_noted_lost, sides_after}
 use Rattle.lsp_survey.specs.Notes.{sides_failed, sides_of, sides_read}
 use Rattle.lsp_survey.specs.declared.losses.Losses.{Losses}
@@ -35,6 +36,7 @@ use Rattle.lsp_verdict.specs.Offences.{IsMalformed, IsNoted, IsReading, Noted, a
 use Rattle.lsp_verdict.specs.Offences.{asked_by, asks, breaks_handshake, broken_by, brought_by}
 use Rattle.lsp_verdict.specs.Offences.{events_of, follows, follows_bytes, follows_passed}
 use Rattle.lsp_verdict.specs.Offences.{is_lost, is_on_lost, is_passed, leaves_unheard}
+use Rattle.lsp_verdict.specs.Offences.{is_unsynced, leaves_unsynced}
 use Rattle.lsp_verdict.specs.Offences.{is_reopened, is_unheard, kept_of, left_by, may_answer}
 use Rattle.lsp_verdict.specs.Offences.{passes, rule_at, said_at}
 use Rattle.lsp_verdict.specs.Placed.{Raw, Reads, broken, content, show}
@@ -44,6 +46,7 @@ use Rattle.lsp_verdict.specs.declared.raw.Raw as lent
 use Rattle.lsp_verdict.specs.declared.raw.Raw.TheVariants as lent_as
 use Rattle.lsp_verdict.proofs.Offences.Steps.{broken-push, events_of-push, is_lost-push}
 use Rattle.lsp_verdict.proofs.Offences.Steps.{is_passed-push, kept-refused, unheard-push}
+use Rattle.lsp_verdict.proofs.Offences.Steps.{unsynced-push}
 use Rattle.lsp_verdict.proofs.Offences.Surveying.{one_malformed}
 
 breaks_at : (o : Option ℕ) (malformed : Option Message) (answers : Bool)
@@ -77,6 +80,19 @@ pub unheard_pushed : (terms : Terms) (notes : List Noted) (n : Noted)
 unheard_pushed terms notes n = unheard-push terms notes n
     ∙ ap (λ (b : Bool). is_unheard terms notes || b)
     (unheard_at (rule_at terms (events_of notes) n.event) n.event)
+
+unsynced_at : (o : Option ℕ) (e : Event)
+    → is_some (option_and_then (λ rule. if leaves_unsynced rule e then Some rule else None) o)
+    ≡ unsynced_with o e
+unsynced_at None e = refl
+unsynced_at (Some rule) e = if_some (leaves_unsynced rule e) rule
+
+pub unsynced_pushed : (terms : Terms) (notes : List Noted) (n : Noted)
+    → is_unsynced terms (notes ++ n ∷ [])
+    ≡ (is_unsynced terms notes || unsynced_with (rule_at terms (events_of notes) n.event) n.event)
+unsynced_pushed terms notes n = unsynced-push terms notes n
+    ∙ ap (λ (b : Bool). is_unsynced terms notes || b)
+    (unsynced_at (rule_at terms (events_of notes) n.event) n.event)
 
 pub losses_on : (terms : Terms) (notes : List Noted) (n : Noted) (rule : Option ℕ)
     (said : Option Call) (old new : Losses) → AreLosses terms old notes
@@ -123,29 +139,35 @@ losses_on terms notes n rule said old new losses rule_is said_is s = record {
       ∙ ap (λ (b : Bool). b || unheard_with rule n.event) losses.unheard
       ∙ ap (λ (o : Option ℕ). is_unheard terms notes || unheard_with o n.event) (sym rule_is)
       ∙ sym (unheard_pushed terms notes n);
+  unsynced =
+      s.unsynced
+      ∙ ap (λ (b : Bool). b || unsynced_with rule n.event) losses.unsynced
+      ∙ ap (λ (o : Option ℕ). is_unsynced terms notes || unsynced_with o n.event) (sym rule_is)
+      ∙ sym (unsynced_pushed terms notes n);
 }
 
 -- ---- an event that offends
 
--- what is noted lost is lost
+-- what is noted lost is lost, and all is where synchronisation was registered
 pub noted_lost : (terms : Terms) (l : Losses) (notes : List Noted) (said : Option Call)
-    → AreLosses terms l notes → is_noted_lost l.documents.map.entries said
+    → AreLosses terms l notes
+    → (is_noted_lost l.documents.map.entries said || (l.unsynced && is_some said))
     ≡ is_on_lost terms notes said
-noted_lost terms l notes None losses = refl
-noted_lost terms l notes (Some call) losses = losses.noted _
+noted_lost terms l notes None losses = and-false l.unsynced
+noted_lost terms l notes (Some call) losses =
+    ap (λ (b : Bool). is_noted_lost l.documents.map.entries (Some call) || b) (and-true l.unsynced)
+    ∙ (λ i. losses.noted (uri_of call) i || losses.unsynced i)
 
 -- whether it follows is told
 pub follows_on : (terms : Terms) (notes : List Noted) (n : Noted) (rule : ℕ) (said : Option Call)
-    (old : Losses) (late : Bool) → AreLosses terms old notes
-    → said_at terms (events_of notes) n.event ≡ said
-    → late ≡ follows_of terms notes rule (is_noted_lost old.documents.map.entries said)
+    (late : Bool) → said_at terms (events_of notes) n.event ≡ said
+    → late ≡ follows_of terms notes rule (is_on_lost terms notes said)
     (follows_passed terms rule notes n.event || follows_bytes rule (events_of notes) n.event)
     → late ≡ follows terms notes n rule
-follows_on terms notes n rule said old late losses said_is is =
+follows_on terms notes n rule said late said_is is =
     let other = follows_passed terms rule notes n.event
     || follows_bytes rule (events_of notes) n.event in
-    is ∙ ap (λ b. follows_of terms notes rule b other)
-    (noted_lost terms old notes said losses ∙ ap (is_on_lost terms notes) (sym said_is))
+    is ∙ ap (λ o. follows_of terms notes rule (is_on_lost terms notes o) other) (sym said_is)
 
 -- ---- an event that is kept
 
@@ -158,15 +180,16 @@ pub kept_on : (terms : Terms) (notes : List Noted) (n : Noted) (said : Option Ca
     → rule_at terms (events_of notes) n.event ≡ None
     → said_at terms (events_of notes) n.event ≡ said → new.handshake ≡ old.handshake
     → new.sides ≡ sides_after n.event old.sides → new.passed ≡ old.passed
-    → new.unheard ≡ old.unheard
+    → new.unheard ≡ old.unheard → new.unsynced ≡ old.unsynced
     → Leaves None (option_and_then brought_by n.malformed) false said old.documents.map.entries
     new.documents.map.entries → AreLosses terms new (notes ++ n ∷ [])
-kept_on terms notes n said old new losses rule_is said_is same sides passed unheard noted =
+kept_on terms notes n said old new losses rule_is said_is same sides passed unheard unsynced noted =
     losses_on terms notes n None said old new losses rule_is said_is (record {
       is_broken = same ∙ or_false old.handshake;
       sides = sides;
       passed = kept_passes n.event n.malformed old.passed new.passed passed;
       unheard = unheard ∙ or_false old.unheard;
+      unsynced = unsynced ∙ or_false old.unsynced;
       noted = noted;
     })
 
@@ -194,12 +217,13 @@ module _ (terms : Terms) (before : List Heard) (h : Heard) (said : Option Call)
       → AreLosses terms old (notes_of before) → h.raw ≡ content side bytes
       → AreAfter said old.documents.map.entries new.documents.map.entries
       → new.sides ≡ sides_read side old.sides → new.handshake ≡ old.handshake
-      → new.passed ≡ old.passed → new.unheard ≡ old.unheard → WasTold new terms before h false
-  message_kept side bytes old new losses raw after sides handshake passed unheard =
+      → new.passed ≡ old.passed → new.unheard ≡ old.unheard → new.unsynced ≡ old.unsynced
+      → WasTold new terms before h false
+  message_kept side bytes old new losses raw after sides handshake passed unheard unsynced =
       let own = subst (λ (w : Raw). IsNoted w h.note) raw noted in
       let is = read h.note.event h.note.malformed own.0 own.1 rule in
       told_kept new (kept_on terms (notes_of before) h.note said old new losses rule says handshake
-      (sides ∙ is.1 old.sides) passed unheard
+      (sides ∙ is.1 old.sides) passed unheard unsynced
       (subst (λ (m : Option Message). Leaves None (option_and_then brought_by m) false said
       old.documents.map.entries new.documents.map.entries) (sym is.0) after))
     where
@@ -231,7 +255,7 @@ module _ (terms : Terms) (before : List Heard) (h : Heard) (said : Option Call)
       let is : said ≡ Some call =
       sym says ∙ ap (λ (e : Event). said_at terms (heard_events before) e) own.0 in
       told_kept l (kept_on terms (notes_of before) h.note said l l losses rule says refl
-      (ap (λ (e : Event). sides_after e l.sides) (sym own.0)) refl refl
+      (ap (λ (e : Event). sides_after e l.sides) (sym own.0)) refl refl refl
       (subst (λ (m : Option Message). Leaves None (option_and_then brought_by m) false said
       l.documents.map.entries l.documents.map.entries) (sym own.1)
       (subst (λ (o : Option Call). AreAfter o l.documents.map.entries l.documents.map.entries)
@@ -253,13 +277,13 @@ module _ (terms : Terms) (before : List Heard) (h : Heard) (m : session.State) (
 
   told_by : (said : Option Call) (malformed : Option Message)
       → said_at terms (events_of notes) h.note.event ≡ said → h.note.malformed ≡ malformed
-      → late ≡ follows_of terms notes rule (is_noted_lost old.documents.map.entries said)
+      → late ≡ follows_of terms notes rule (is_on_lost terms notes said)
       (follows_passed terms rule notes h.note.event
       || follows_bytes rule (events_of notes) h.note.event)
       → IsNotedIn terms notes h.note.event malformed said (Some rule) old new
       → WasTold new terms before h late
   told_by said malformed said_is whole is l = record {
-    late_is = follows_on terms notes h.note rule said old late losses said_is is
+    late_is = follows_on terms notes h.note rule said late said_is is
         ∙ ap (λ (o : Option ℕ). unwrap_or (option_map (follows terms notes h.note) o) false)
         (sym breaks);
     losses = subst (AreLosses terms new) (sym (notes-push before h))
@@ -275,7 +299,7 @@ module _ (terms : Terms) (before : List Heard) (h : Heard) (m : session.State) (
       → ((notes : List Noted) (event : Event) → AreLosses terms old notes → d.terms ≡ terms
       → Holds m d (kept_of terms (events_of notes))
       → IsMessageOf side (message_view s.message) event
-      → (late ≡ follows_of terms notes rule (is_noted_lost old.documents.map.entries said)
+      → (late ≡ follows_of terms notes rule (is_on_lost terms notes said)
       (follows_passed terms rule notes event || follows_bytes rule (events_of notes) event))
       × IsNotedIn terms notes event None said (Some rule) old new)
       → WasTold new terms before h late
@@ -346,6 +370,7 @@ module _ (terms : Terms) (before : List Heard) (h : Heard) (m : session.State) (
         passed = fault_passes (fault side rule) side rule rule old.passed new.passed refl
             (ap (λ (l : Losses). l.passed) stays);
         unheard = ap (λ (l : Losses). l.unheard) stays ∙ or_false old.unheard;
+        unsynced = ap (λ (l : Losses). l.unsynced) stays ∙ or_false old.unsynced;
         noted = subst (λ (w : code_notes.Notes). Leaves (Some rule) None false None
             old.documents.map.entries w.map.entries) (sym (ap (λ (l : Losses). l.documents) stays))
             (nothing_said (Some rule) false old.documents.map.entries);
@@ -364,14 +389,14 @@ module _ (terms : Terms) (before : List Heard) (h : Heard) (m : session.State) (
       → ((calls : List Call) → docs.Stands d calls → Leaves (Some rule) None
       (is_reopened d.terms calls said) said old.documents.map.entries new.documents.map.entries)
       → ((t : Terms) (notes : List Noted) → AreLosses t old notes → HoldsSent m t notes
-      → late ≡ follows_of t notes rule (is_noted_lost old.documents.map.entries said) false)
+      → late ≡ follows_of t notes rule (is_on_lost t notes said) false)
       → WasTold new terms before h late
   shown_lost number uri text said raw says stays leaves follows_is =
       let own = subst (λ (w : Raw). IsNoted w h.note) raw noted in
       told_by said None says own.1
       (follows_is terms notes losses held_before.sent
       ∙ ap (λ (e : Event). follows_of terms notes rule
-      (is_noted_lost old.documents.map.entries said)
+      (is_on_lost terms notes said)
       (follows_passed terms rule notes e || follows_bytes rule (heard_events before) e))
       (sym own.0))
       (subst (λ (e : Event). IsNotedIn terms notes e None said (Some rule) old new) (sym own.0)
@@ -381,6 +406,7 @@ module _ (terms : Terms) (before : List Heard) (h : Heard) (m : session.State) (
         sides = ap (λ (l : Losses). l.sides) stays;
         passed = λ side k. ap (λ (l : Losses). has_passed l.passed side (id_view k)) stays;
         unheard = ap (λ (l : Losses). l.unheard) stays ∙ or_false old.unheard;
+        unsynced = ap (λ (l : Losses). l.unsynced) stays ∙ or_false old.unsynced;
         noted = subst (λ (t : Terms). Leaves (Some rule) None
             (is_reopened t (calls (kept_before terms before)) said) said old.documents.map.entries
             new.documents.map.entries) stood.by

@@ -3,41 +3,51 @@ use Rattle.std.specs.Prelude.{nat_le, ◌&&◌, ◌||◌, ◌==◌, if◌then◌
 use Rattle.std.proofs.Common.{◌≡◌, ℕ, Bool, true, false, List, [], ◌∷◌, ◌++◌, Some, None, refl, sym}
 use Rattle.std.proofs.Common.{ap, ◌∙◌}
 use Rattle.std.proofs.Math.Bool.{or-false}
-use Rattle.lsp_rpc.specs.Message.{Message}
+use Rattle.lsp_rpc.specs.Message.{Message, request, notification, response, result, error}
+use Rattle.lsp_rpc.specs.Outline.{outline}
 use Rattle.lsp_session.specs.Sent.{same_side, other_side}
 use Rattle.lsp_types.specs.declared.rules.TheConstants as rules
 use Rattle.lsp_types.specs.declared.side.Side.{Side}
 use Rattle.lsp_types.specs.declared.side.Side.TheVariants.{Editor, Server}
 use Rattle.lsp_verdict.specs.Event.{Event, message, fault, snapshot}
-use Rattle.lsp_verdict.specs.Offences.{follows_bytes, has_broken, is_frame_fault, is_unread}
-use Rattle.lsp_verdict.specs.Offences.{may_answer, unread_by, wants_other}
-use Rattle.lsp_verdict.proofs.Offences.Steps.{has_broken-push, is_unread-push}
+use Rattle.lsp_verdict.specs.Offences.{follows_bytes, has_broken, has_no_message, is_frame_fault}
+use Rattle.lsp_verdict.specs.Offences.{is_nameless, is_no_message, is_unread, is_within, may_answer}
+use Rattle.lsp_verdict.specs.Offences.{unread_by, wants_other}
+use Rattle.lsp_verdict.proofs.Offences.Steps.{has_broken-push, has_no_message-push, is_unread-push}
 use Rattle.lsp_survey.specs.Notes.{failed_on, read_on, side_in, side_of, sides_after, sides_of}
-use Rattle.lsp_survey.specs.Notes.{sides_read}
+use Rattle.lsp_survey.specs.Notes.{message_follows, sides_read}
 use Rattle.lsp_survey.specs.Lost.{IsMessageOf}
 use Rattle.lsp_survey.specs.declared.notes.sides.SideNote.{SideNote}
 use Rattle.lsp_survey.specs.declared.notes.sides.Sides.{Sides}
 
-abbrev note : Bool → Bool → SideNote
-note broken unread = record { broken = broken; unread = unread }
+abbrev note : Bool → Bool → Bool → SideNote
+note broken unread no_message = record {
+  broken = broken;
+  unread = unread;
+  no_message = no_message;
+}
 
 pushed : (side : Side) (events : List Event) (e : Event) → side_of side (events ++ e ∷ [])
     ≡ note (has_broken side events || is_frame_fault side e)
     (unwrap_or (unread_by side e) (is_unread side events))
+    (has_no_message side events || is_no_message side e)
 pushed side events e =
     λ i. note (has_broken-push side events e i) (is_unread-push side events e i)
+    (has_no_message-push side events e i)
 
-message_by : (own b u : Bool) → note (b || false) (unwrap_or (if own then Some false else None) u)
-    ≡ (if own then read_on (note b u) else note b u)
-message_by true b u = ap (λ x. note x false) (or-false b)
-message_by false b u = ap (λ x. note x u) (or-false b)
+message_by : (own b u n : Bool)
+    → note (b || false) (unwrap_or (if own then Some false else None) u) (n || false)
+    ≡ (if own then read_on (note b u n) else note b u n)
+message_by true b u n = λ i. note (or-false b i) false (or-false n i)
+message_by false b u n = λ i. note (or-false b i) u (or-false n i)
 
-fault_by : (own b u : Bool) (rule : ℕ)
+fault_by : (own b u n : Bool) (rule : ℕ)
     → note (b || (own && nat_le rule rules.CHARSET_NOT_UTF_8))
     (unwrap_or (if own then Some (rule == rules.CONTENT_NOT_JSON) else None) u)
-    ≡ (if own then failed_on rule (note b u) else note b u)
-fault_by true b u rule = refl
-fault_by false b u rule = ap (λ x. note x u) (or-false b)
+    (n || (own && is_within rules.CONTENT_NOT_JSON rules.BAD_ERROR_OBJECT rule))
+    ≡ (if own then failed_on rule (note b u n) else note b u n)
+fault_by true b u n rule = refl
+fault_by false b u n rule = λ i. note (or-false b i) u (or-false n i)
 
 -- **with one event more**
 pub sides_pushed : (events : List Event) (e : Event)
@@ -45,24 +55,26 @@ pub sides_pushed : (events : List Event) (e : Event)
 sides_pushed events (message m) = λ i. record {
   editor = (pushed Editor events (message m)
       ∙ message_by (same_side Editor m.side) (has_broken Editor events)
-      (is_unread Editor events)) i;
+      (is_unread Editor events) (has_no_message Editor events)) i;
   server = (pushed Server events (message m)
       ∙ message_by (same_side Server m.side) (has_broken Server events)
-      (is_unread Server events)) i;
+      (is_unread Server events) (has_no_message Server events)) i;
 }
 sides_pushed events (fault side rule) = λ i. record {
   editor = (pushed Editor events (fault side rule)
       ∙ fault_by (same_side Editor side) (has_broken Editor events)
-      (is_unread Editor events) rule) i;
+      (is_unread Editor events) (has_no_message Editor events) rule) i;
   server = (pushed Server events (fault side rule)
       ∙ fault_by (same_side Server side) (has_broken Server events)
-      (is_unread Server events) rule) i;
+      (is_unread Server events) (has_no_message Server events) rule) i;
 }
 sides_pushed events (snapshot uri number text) = λ i. record {
   editor = (pushed Editor events (snapshot uri number text)
-      ∙ ap (λ x. note x (is_unread Editor events)) (or-false (has_broken Editor events))) i;
+      ∙ message_by false (has_broken Editor events) (is_unread Editor events)
+      (has_no_message Editor events)) i;
   server = (pushed Server events (snapshot uri number text)
-      ∙ ap (λ x. note x (is_unread Server events)) (or-false (has_broken Server events))) i;
+      ∙ message_by false (has_broken Server events) (is_unread Server events)
+      (has_no_message Server events)) i;
 }
 
 -- what is noted of a side is what is to be noted of it
@@ -76,7 +88,19 @@ pub broken_in : (side : Side) (events : List Event)
 broken_in Editor events = refl
 broken_in Server events = refl
 
+pub no_message_in : (side : Side) (events : List Event)
+    → (side_in side (sides_of events)).no_message ≡ has_no_message side events
+no_message_in Editor events = refl
+no_message_in Server events = refl
+
 -- ---- what follows from bytes that failed
+
+-- an error without an id is one whatever it answers
+nameless_outline : (m : Message) → is_nameless m ≡ is_nameless (outline m)
+nameless_outline (request id method params) = refl
+nameless_outline (notification method params) = refl
+nameless_outline (response id (result value)) = refl
+nameless_outline (response id (error code)) = refl
 
 module _ (rule : ℕ) (side : Side) (s : Sides) (events : List Event) (are : s ≡ sides_of events)
   where
@@ -87,12 +111,19 @@ module _ (rule : ℕ) (side : Side) (s : Sides) (events : List Event) (are : s �
         ∙ ap (λ b. nat_le rule rules.CHARSET_NOT_UTF_8 && b) (unread_in side events)
 
     pub message_late : (said : Message) (event : Event) → IsMessageOf side said event
-        → (wants_other rule && (side_in (other_side side) s).broken)
+        → message_follows rule said (side_in (other_side side) s)
         ≡ follows_bytes rule events event
     message_late said event is =
-        ap (λ w. wants_other rule && (side_in (other_side side) w).broken) are
-        ∙ ap (λ b. wants_other rule && b) (broken_in (other_side side) events)
-        ∙ ap (λ by. wants_other rule && has_broken (other_side by) events) (sym is.2)
+        let own = rule == rules.RESPONSE_TO_NO_OPEN_REQUEST in
+        ap (λ w. message_follows rule said (side_in (other_side side) w)) are
+        ∙ (λ i. wants_other rule && broken_in (other_side side) events i
+        || own && (is_nameless said && no_message_in (other_side side) events i))
+        ∙ ap (λ b. wants_other rule && has_broken (other_side side) events
+        || own && (b && has_no_message (other_side side) events))
+        (nameless_outline said ∙ ap is_nameless (sym is.3) ∙ sym (nameless_outline is.0.message))
+        ∙ ap (λ by. wants_other rule && has_broken (other_side by) events
+        || own && (is_nameless is.0.message && has_no_message (other_side by) events))
+        (sym is.2)
         ∙ ap (follows_bytes rule events) (sym is.1)
 
 pub message_after : (side : Side) (s : Sides) (said : Message) (event : Event)

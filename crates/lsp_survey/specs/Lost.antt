@@ -20,6 +20,7 @@ use Rattle.lsp_verdict.specs.LookBack.{first_of}
 use Rattle.lsp_verdict.specs.Offences.{Noted, asks, breaks_handshake, broken_by}
 use Rattle.lsp_verdict.specs.Offences.{brought_by, events_of, follows, is_handshake_lost}
 use Rattle.lsp_verdict.specs.Offences.{is_lost, is_passed, is_reopened, leaves_unheard}
+use Rattle.lsp_verdict.specs.Offences.{is_unsynced, leaves_unsynced}
 use Rattle.lsp_verdict.specs.Offences.{is_unheard, kept_of, may_answer, wants_handshake, wants_text}
 use Rattle.lsp_verdict.specs.Placed.{Raw, broken, content, show}
 
@@ -31,6 +32,7 @@ pub record AreLosses (terms : Terms) (l : Losses) (notes : List Noted) : Type 0 
   pub passed : (side : Side) (k : Id) → has_passed l.passed side (id_view k)
       ≡ is_passed terms side (id_view k) notes
   pub unheard : l.unheard ≡ is_unheard terms notes
+  pub unsynced : l.unsynced ≡ is_unsynced terms notes
 
 -- what is lost by an event that breaks this rule, or is kept, may have to be noted: nothing by a
 -- fault of the frames, or a snapshot that is kept
@@ -65,6 +67,11 @@ abbrev pub unheard_with : Option ℕ → Event → Bool
 unheard_with None event = false
 unheard_with (Some rule) event = leaves_unheard rule event
 
+-- an event that offends by this rule, or is kept, registers synchronisation
+abbrev pub unsynced_with : Option ℕ → Event → Bool
+unsynced_with None event = false
+unsynced_with (Some rule) event = leaves_unsynced rule event
+
 -- **this event, which offends by this rule or is kept, was noted after these**: where its content
 -- is malformed it is this message, and it says this about a document
 pub record IsNotedIn (terms : Terms) (before : List Noted) (event : Event)
@@ -75,6 +82,7 @@ pub record IsNotedIn (terms : Terms) (before : List Noted) (event : Event)
     pub sides : new.sides ≡ sides_after event old.sides
     pub passed : ArePassed rule event malformed old.passed new.passed
     pub unheard : new.unheard ≡ (old.unheard || unheard_with rule event)
+    pub unsynced : new.unsynced ≡ (old.unsynced || unsynced_with rule event)
     pub noted : Leaves rule (option_and_then brought_by malformed)
         (is_reopened terms (calls (kept_of terms (events_of before))) said) said
         old.documents.map.entries new.documents.map.entries

@@ -10,7 +10,8 @@ use Rattle.lsp_rpc.specs.declared.message.Id.{Id}
 use Rattle.lsp_rpc.specs.Message.{Message}
 use Rattle.lsp_docs.specs.Calls.{Call, uri_of}
 use Rattle.lsp_verdict.specs.Offences.{asks, brought_by, left_by, request_id, answered_by, asked_by}
-use Rattle.lsp_verdict.specs.Offences.{asked_from, passes, has_broken, is_unread}
+use Rattle.lsp_verdict.specs.Offences.{asked_from, passes, has_broken, has_no_message, is_unread}
+use Rattle.lsp_verdict.specs.Offences.{is_nameless, is_within, wants_other}
 use Rattle.lsp_verdict.specs.Spelling.{folded, is_alike}
 use Rattle.lsp_verdict.specs.Event.{Event, message, fault, snapshot}
 use Rattle.lsp_types.specs.declared.rules.TheConstants as rules
@@ -152,6 +153,7 @@ abbrev pub side_of : Side → List Event → SideNote
 side_of side events = record {
   broken = has_broken side events;
   unread = is_unread side events;
+  no_message = has_no_message side events;
 }
 
 abbrev pub sides_of : List Event → Sides
@@ -162,13 +164,14 @@ sides_of events = record {
 
 -- after a message
 abbrev pub read_on : SideNote → SideNote
-read_on old = record { broken = old.broken; unread = false }
+read_on old = record { broken = old.broken; unread = false; no_message = old.no_message }
 
 -- after a frame or a content that breaks this rule
 abbrev pub failed_on : ℕ → SideNote → SideNote
 failed_on rule old = record {
   broken = old.broken || nat_le rule rules.CHARSET_NOT_UTF_8;
   unread = rule == rules.CONTENT_NOT_JSON;
+  no_message = old.no_message || is_within rules.CONTENT_NOT_JSON rules.BAD_ERROR_OBJECT rule;
 }
 
 -- after a message of this side
@@ -190,3 +193,13 @@ abbrev pub sides_after : Event → Sides → Sides
 sides_after (message m) old = sides_read m.side old
 sides_after (fault side rule) old = sides_failed side rule old
 sides_after (snapshot uri number text) old = old
+
+-- a message that breaks this rule answers a content of the other side that was no message, where
+-- this is noted of that side
+abbrev pub answers_noted : ℕ → Message → SideNote → Bool
+answers_noted rule m other = rule == rules.RESPONSE_TO_NO_OPEN_REQUEST
+    && (is_nameless m && other.no_message)
+
+-- it follows from what failed of the other side
+abbrev pub message_follows : ℕ → Message → SideNote → Bool
+message_follows rule m other = wants_other rule && other.broken || answers_noted rule m other

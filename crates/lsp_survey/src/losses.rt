@@ -13,7 +13,7 @@ ghost use Rattle.lsp_session.specs.Sent.{other_side, response_id, same_side};
 ghost use Rattle.lsp_session.specs.State.{Stands};
 ghost use Rattle.lsp_survey.specs.Lost.{AreLosses, HoldsSent, IsMessageOf, IsNotedIn, WasTold};
 ghost use Rattle.lsp_survey.specs.Lost.{follows_of, may_lose};
-ghost use Rattle.lsp_survey.specs.Notes.{Leaves, has_any, is_noted_lost, sides_failed};
+ghost use Rattle.lsp_survey.specs.Notes.{Leaves, has_any, sides_failed};
 ghost use Rattle.lsp_types.specs.declared.rules.TheConstants as rules;
 ghost use Rattle.lsp_types.specs.declared.side.Side.TheVariants.{Editor};
 ghost use Rattle.lsp_verdict.specs.Event.{Event, fault, sent_in};
@@ -21,7 +21,7 @@ ghost use Rattle.lsp_verdict.specs.Heard.{Heard, notes_of};
 ghost use Rattle.lsp_verdict.specs.Given.{raw_view};
 ghost use Rattle.lsp_verdict.specs.Offences.{IsReading, Noted, breaks_handshake, events_of};
 ghost use Rattle.lsp_verdict.specs.Offences.{follows_bytes, follows_passed, is_handshake_lost};
-ghost use Rattle.lsp_verdict.specs.Offences.{is_reopened, kept_of, may_answer, tells_initialized};
+ghost use Rattle.lsp_verdict.specs.Offences.{is_on_lost, is_reopened, kept_of, may_answer, tells_initialized};
 
 use crate::notes::{
     Malformed, Notes, Passed, Sides, breaks_handshake, meant_again, note_kept, note_malformed,
@@ -49,6 +49,8 @@ pub struct Losses {
     passed: Passed,
     /// Whether the editor's `initialized` was passed over.
     unheard: bool,
+    /// Whether synchronisation was registered, so that all documents are lost.
+    unsynced: bool,
 }
 
 impl Losses {
@@ -62,6 +64,7 @@ impl Losses {
             sides: Sides::new(),
             passed: Passed::new(alloc),
             unheard: false,
+            unsynced: false,
         }
     }
 
@@ -125,8 +128,7 @@ impl Losses {
             → Holds held.now.session held.now.docs (kept_of terms (events_of before))
             → IsMessageOf side (message_view message.now) event
             → (late ≡ follows_of terms before rule
-            (is_noted_lost self.old.documents.map.entries (option_map call_view said.entry))
-            (follows_passed terms rule before event
+            (is_on_lost terms before (option_map call_view said.entry)) (follows_passed terms rule before event
             || follows_bytes rule (events_of before) event))
             × IsNotedIn terms before event None (option_map call_view said.entry)
             (Some rule) self.old self.new) }
@@ -136,6 +138,7 @@ impl Losses {
         self.sides = self.sides.after_message(side);
         self.passed.note(side, rule, message)?;
         self.unheard |= is_initialized(side, message) | (rule == rules::INITIALIZED_NOT_FIRST);
+        self.unsynced |= rule == rules::DYNAMIC_REGISTRATION;
         Ok(follows)
     }
 
@@ -160,10 +163,9 @@ impl Losses {
         ensures follows { IfOk result (λ follows. (terms : Terms) (before : List Noted)
             → AreLosses terms self.old before → HoldsSent held.now.session terms before
             → follows ≡ follows_of terms before rule
-            (is_noted_lost self.old.documents.map.entries (option_map call_view said.entry))
-            late) }
+            (is_on_lost terms before (option_map call_view said.entry)) late) }
     {
-        let on_lost = self.documents.is_lost(said)?;
+        let on_lost = self.is_on_lost(said)?;
         let follows = self.follows(&held.session, rule, on_lost, late);
         self.handshake |= breaks_handshake(false, rule);
         note_refused(&mut self.documents, &held.docs, rule, said)?;
@@ -219,8 +221,8 @@ impl Losses {
     }
 
     /// Whether an offence of this message by this rule follows from the broken frames of the other
-    /// side, or from a message that was passed over: it answers a request, or wants `initialized`
-    /// before it.
+    /// side or a content of it that was no message, or from a message that was passed over: it
+    /// answers a request, or wants `initialized` before it.
     fn message_follows(&self, side: Side, rule: u16, message: &Message) -> bool
         ensures { (terms : Terms) (before : List Noted) (event : Event)
             → AreLosses terms self.now before → IsMessageOf side (message_view message.now) event
@@ -229,7 +231,7 @@ impl Losses {
     {
         let answers = self.answers_passed(side, rule, message);
         let wants = (rule == rules::INITIALIZED_NOT_FIRST) & self.unheard;
-        answers | wants | self.sides.message_follows(side, rule)
+        answers | wants | self.sides.message_follows(side, rule, message)
     }
 
     /// Whether a message of this side that breaks this rule answers a request that was passed over.
@@ -251,6 +253,16 @@ impl Losses {
         (wants_handshake(rule) && self.is_handshake_lost(session))
             || (wants_text(rule) && on_lost)
             || late
+    }
+
+    /// Whether what is said, if anything, is about a document that is lost.
+    fn is_on_lost(&self, said: Option<Call<'_>>) -> Result<bool>
+        ensures { IfOk result (λ lost. (terms : Terms) (before : List Noted)
+            → AreLosses terms self.now before
+            → lost ≡ is_on_lost terms before (option_map call_view said.entry)) }
+    {
+        let is_noted = self.documents.is_lost(said)?;
+        Ok(is_noted || (self.unsynced && said.is_some()))
     }
 
     /// Whether an event of the handshake was refused, and no answer has settled it.

@@ -9,7 +9,7 @@ use Rattle.std.specs.Ordering.{int_eq}
 use Rattle.std.specs.Str.{bytes_eq}
 use Rattle.lsp_frame.specs.Bounds.{Bounds}
 use Rattle.lsp_rpc.specs.Ident.{Ident}
-use Rattle.lsp_rpc.specs.Message.{Message, request, notification, response}
+use Rattle.lsp_rpc.specs.Message.{Message, request, notification, response, result, error}
 use Rattle.lsp_rpc.specs.Params.{required, uri_at}
 use Rattle.lsp_rpc.specs.Reading as content
 use Rattle.lsp_types.specs.declared.side.Side.{Side}
@@ -176,6 +176,24 @@ last_or none (x ∷ xs) = last_or x xs
 abbrev pub is_lost : Terms → List ℕ → List Noted → Bool
 is_lost terms uri before = last_or false (each_of (lost_by terms uri) before)
 
+-- ---- all documents are lost
+
+-- 504: an event that offends by this rule registers synchronisation, which is not followed
+abbrev pub leaves_unsynced : ℕ → Event → Bool
+leaves_unsynced rule (message m) = rule == rules.DYNAMIC_REGISTRATION
+leaves_unsynced rule (fault side code) = false
+leaves_unsynced rule (snapshot uri number text) = false
+
+abbrev pub unsynced_by : Terms → List Noted → Noted → Option ℕ
+unsynced_by terms before n =
+    option_and_then (λ rule. if leaves_unsynced rule n.event then Some rule else None)
+    (rule_at terms (events_of before) n.event)
+
+-- **synchronisation was registered later**: what the server gets to know of any document is not
+-- known from then on
+abbrev pub is_unsynced : Terms → List Noted → Bool
+is_unsynced terms before = is_some (first_of (unsynced_by terms) before)
+
 -- ---- the handshake is lost
 
 abbrev pub asks_handshake : Message → Bool
@@ -239,10 +257,35 @@ wants_other rule = rule == rules.RESPONSE_TO_NO_OPEN_REQUEST
     || (rule == rules.EDITOR_WHILE_INITIALIZE_OPEN
     || is_within rules.SERVER_BEFORE_INITIALIZE rules.SERVER_WHILE_INITIALIZE_OPEN rule)
 
+-- 201 to 208: an event of this side is a content that is no message
+abbrev pub is_no_message : Side → Event → Bool
+is_no_message side (fault by rule) =
+    same_side side by && is_within rules.CONTENT_NOT_JSON rules.BAD_ERROR_OBJECT rule
+is_no_message side (message m) = false
+is_no_message side (snapshot uri number text) = false
+
+-- **a content of this side was no message**: the other side may answer that it cannot read it
+abbrev pub has_no_message : Side → List Event → Bool
+has_no_message side events = list_any (is_no_message side) events
+
+-- an error whose id is null, as JSON-RPC 2.0 ("Response object") wants it where none can be read
+abbrev pub is_nameless : Message → Bool
+is_nameless (request id method params) = false
+is_nameless (notification method params) = false
+is_nameless (response id (error code)) = is_none id
+is_nameless (response id (result value)) = false
+
+-- 301: the message answers a content of the other side that was no message
+abbrev pub answers_content : ℕ → List Event → Sent → Bool
+answers_content rule before m = rule == rules.RESPONSE_TO_NO_OPEN_REQUEST
+    && (is_nameless m.message && has_no_message (other_side m.side) before)
+
 -- **an offence of this event, by this rule, follows from bytes that failed before**: the frames of
--- the other side, or the content in front of a fault of the frames
+-- the other side, a content of it that was no message, or the content in front of a fault of the
+-- frames
 abbrev pub follows_bytes : ℕ → List Event → Event → Bool
-follows_bytes rule before (message m) = wants_other rule && has_broken (other_side m.side) before
+follows_bytes rule before (message m) =
+    wants_other rule && has_broken (other_side m.side) before || answers_content rule before m
 follows_bytes rule before (fault side code) =
     nat_le rule rules.CHARSET_NOT_UTF_8 && is_unread side before
 follows_bytes rule before (snapshot uri number text) = false
@@ -345,9 +388,11 @@ abbrev pub wants_text : ℕ → Bool
 wants_text rule = is_within rules.DOCUMENT_NOT_OPEN rules.SAVED_TEXT_DIFFERS rule
     || rule == rules.SNAPSHOT_DIFFERS
 
+-- it speaks of a document that is lost, or of any after synchronisation was registered
 abbrev pub is_on_lost : Terms → List Noted → Option Call → Bool
 is_on_lost terms before None = false
-is_on_lost terms before (Some call) = is_lost terms (uri_of call) before
+is_on_lost terms before (Some call) =
+    is_lost terms (uri_of call) before || is_unsynced terms before
 
 -- **the offence of this event, by this rule, follows from an earlier one**
 abbrev pub follows : Terms → List Noted → Noted → ℕ → Bool

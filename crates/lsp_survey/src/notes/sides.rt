@@ -1,13 +1,14 @@
 //! What is noted of the bytes of both sides.
 ghost use Rattle.std.specs.Prelude.{◌≡◌, ◌&&◌, [], false, nat_le};
+ghost use Rattle.lsp_rpc.specs.View.{message_view};
 ghost use Rattle.lsp_session.specs.Sent.{other_side};
 ghost use Rattle.lsp_survey.specs.Notes.{failed_on, read_on, side_in, sides_failed, sides_of};
-ghost use Rattle.lsp_survey.specs.Notes.{sides_read};
+ghost use Rattle.lsp_survey.specs.Notes.{answers_noted, message_follows, sides_read};
 ghost use Rattle.lsp_types.specs.declared.rules.TheConstants as rules;
-ghost use Rattle.lsp_verdict.specs.Offences.{wants_other};
+ghost use Rattle.lsp_verdict.specs.Offences.{is_nameless, is_within, wants_other};
 
 use crate::notes::rules::wants_other;
-use lsp_rpc::Side;
+use lsp_rpc::{Answer, Message, Side};
 use lsp_types::rules;
 
 /// What is noted of the bytes of a side.
@@ -17,6 +18,8 @@ pub(crate) struct SideNote {
     pub broken: bool,
     /// Whether its last event is a content that is not JSON.
     pub unread: bool,
+    /// Whether a content of it was no message.
+    pub no_message: bool,
 }
 
 impl SideNote {
@@ -24,10 +27,12 @@ impl SideNote {
     fn new() -> SideNote
         ensures broken { result.broken ≡ false }
         ensures unread { result.unread ≡ false }
+        ensures no_message { result.no_message ≡ false }
     {
         SideNote {
             broken: false,
             unread: false,
+            no_message: false,
         }
     }
 
@@ -38,6 +43,7 @@ impl SideNote {
         SideNote {
             broken: self.broken,
             unread: false,
+            no_message: self.no_message,
         }
     }
 
@@ -48,6 +54,7 @@ impl SideNote {
         SideNote {
             broken: self.broken || rule <= rules::CHARSET_NOT_UTF_8,
             unread: rule == rules::CONTENT_NOT_JSON,
+            no_message: self.no_message || is_no_message(rule),
         }
     }
 }
@@ -110,11 +117,13 @@ impl Sides {
     }
 
     /// Whether an offence of a message of this side by this rule follows from the broken frames of
-    /// the other.
-    pub(crate) fn message_follows(self, side: Side, rule: u16) -> bool
-        ensures { result ≡ (wants_other rule && (side_in (other_side side) self).broken) }
+    /// the other, or from a content of it that was no message.
+    pub(crate) fn message_follows(self, side: Side, rule: u16, message: &Message) -> bool
+        ensures { result ≡ message_follows rule (message_view message.now)
+            (side_in (other_side side) self) }
     {
-        wants_other(rule) && self.other_than(side).broken
+        let other = self.other_than(side);
+        (wants_other(rule) && other.broken) || answers_content(rule, message, other)
     }
 
     /// What is noted of this side.
@@ -135,5 +144,33 @@ impl Sides {
             Side::Editor => self.server,
             Side::Server => self.editor,
         }
+    }
+}
+
+/// Whether a content that breaks this rule is no message (201 to 208).
+fn is_no_message(rule: u16) -> bool
+    ensures { result ≡ is_within rules.CONTENT_NOT_JSON rules.BAD_ERROR_OBJECT rule }
+{
+    matches!(rule, rules::CONTENT_NOT_JSON..=rules::BAD_ERROR_OBJECT)
+}
+
+/// Whether a message that breaks this rule answers a content of the other side, of which this is
+/// noted, that was no message.
+fn answers_content(rule: u16, message: &Message, other: SideNote) -> bool
+    ensures { result ≡ answers_noted rule (message_view message.now) other }
+{
+    rule == rules::RESPONSE_TO_NO_OPEN_REQUEST && is_nameless(message) && other.no_message
+}
+
+/// Whether a message is an error whose id is null (JSON-RPC 2.0, section 5).
+fn is_nameless(message: &Message) -> bool
+    ensures { result ≡ is_nameless (message_view message.now) }
+{
+    match message {
+        Message::Response {
+            id: None,
+            answer: Answer::Error { .. },
+        } => true,
+        _ => false,
     }
 }

@@ -28,6 +28,8 @@ use Rattle.lsp_verdict.specs.Offences.{wants_other, follows_bytes, wants_handsha
 use Rattle.lsp_verdict.specs.Offences.{is_on_lost, asked_by, answered_by, passes, passed_by}
 use Rattle.lsp_verdict.specs.Offences.{is_passed, is_any_passed, follows_passed, follows}
 use Rattle.lsp_verdict.specs.Offences.{is_unheard, leaves_unheard, unheard_by}
+use Rattle.lsp_verdict.specs.Offences.{answers_content, has_no_message, is_nameless, is_unsynced}
+use Rattle.lsp_verdict.specs.Offences.{leaves_unsynced, unsynced_by}
 use Rattle.lsp_verdict.specs.Offences.{offence_by, offence_at, offences}
 use Rattle.lsp_verdict.specs.Verdict.{Verdict, offence, no_by, no_at, first_no}
 use Rattle.lsp_verdict.proofs.Finding.{nothing_from, nothing_at, map_none, not_empty}
@@ -208,10 +210,21 @@ document_stands terms uri before clean =
     never_lost uri brought other said
     (ap (λ (o : Option ℕ). left_by uri o brought other said) (sym rule) ∙ lost))
 
+none_unsynced : (terms : Terms) (before : List Noted) → IsClean terms before
+    → is_unsynced terms before ≡ false
+none_unsynced terms before clean =
+    ap (λ (o : Option ℕ). is_some o) (nothing_from (unsynced_by terms) [] before
+    (λ front after n cut. ap
+    (option_and_then (λ rule. if leaves_unsynced rule n.event then Some rule else None))
+    (clean_rule terms front after n
+    (ap (λ (ns : List Noted). first_of (no_at terms) (events_of ns)) (sym cut) ∙ clean))))
+
 none_on_lost : (terms : Terms) (before : List Noted) (o : Option Call) → IsClean terms before
     → is_on_lost terms before o ≡ false
 none_on_lost terms before None clean = refl
-none_on_lost terms before (Some call) clean = document_stands terms (uri_of call) before clean
+none_on_lost terms before (Some call) clean =
+    ap (λ (b : Bool). b || is_unsynced terms before) (document_stands terms (uri_of call) before clean)
+    ∙ none_unsynced terms before clean
 
 -- ---- no bytes failed
 
@@ -226,6 +239,20 @@ no_frame_fault terms side before (snapshot uri n t ∷ events) none =
     no_frame_fault terms side (before ++ snapshot uri n t ∷ []) events
     (or_none_parts (no_at terms before (snapshot uri n t)) _ none).1
 no_frame_fault terms side before (fault by rule ∷ events) none =
+    absurd (cc (or_none_parts (no_at terms before (fault by rule))
+    (first_from (no_at terms) (before ++ fault by rule ∷ []) events) none).0)
+
+-- and none a content that is no message
+no_content_fault : (terms : Terms) (side : Side) (before events : List Event)
+    → first_from (no_at terms) before events ≡ None → has_no_message side events ≡ false
+no_content_fault terms side before [] none = refl
+no_content_fault terms side before (message m ∷ events) none =
+    no_content_fault terms side (before ++ message m ∷ []) events
+    (or_none_parts (no_at terms before (message m)) _ none).1
+no_content_fault terms side before (snapshot uri n t ∷ events) none =
+    no_content_fault terms side (before ++ snapshot uri n t ∷ []) events
+    (or_none_parts (no_at terms before (snapshot uri n t)) _ none).1
+no_content_fault terms side before (fault by rule ∷ events) none =
     absurd (cc (or_none_parts (no_at terms before (fault by rule))
     (first_from (no_at terms) (before ++ fault by rule ∷ []) events) none).0)
 
@@ -252,8 +279,15 @@ none_unread terms side before (fault by rule ∷ events) none =
 bytes_stand : (terms : Terms) (rule : ℕ) (before : List Event) (e : Event)
     → first_of (no_at terms) before ≡ None → follows_bytes rule before e ≡ false
 bytes_stand terms rule before (message m) clean =
-    ap (λ (b : Bool). wants_other rule && b)
-    (no_frame_fault terms (other_side m.side) [] before clean) ∙ and-false (wants_other rule)
+    ap (λ (b : Bool). wants_other rule && b || answers_content rule before m)
+    (no_frame_fault terms (other_side m.side) [] before clean)
+    ∙ ap (λ (b : Bool). b || answers_content rule before m) (and-false (wants_other rule))
+    ∙ ap (λ (b : Bool). own && (is_nameless m.message && b))
+    (no_content_fault terms (other_side m.side) [] before clean)
+    ∙ ap (λ (b : Bool). own && b) (and-false (is_nameless m.message)) ∙ and-false own
+  where
+    own : Bool
+    own = rule == rules.RESPONSE_TO_NO_OPEN_REQUEST
 bytes_stand terms rule before (fault side code) clean =
     ap (λ (b : Bool). nat_le rule rules.CHARSET_NOT_UTF_8 && b)
     (none_unread terms side [] before clean) ∙ and-false (nat_le rule rules.CHARSET_NOT_UTF_8)

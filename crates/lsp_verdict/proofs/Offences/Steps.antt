@@ -15,7 +15,8 @@ use Rattle.lsp_verdict.specs.LookBack.{first_of, each_of}
 use Rattle.lsp_verdict.specs.Offences.{Noted, events_of, kept_of, rule_at, lost_by, last_or, is_lost}
 use Rattle.lsp_verdict.specs.Offences.{broken_by, offence_at, offences, is_frame_fault, has_broken}
 use Rattle.lsp_verdict.specs.Offences.{unread_by, is_unread, passed_by, is_passed}
-use Rattle.lsp_verdict.specs.Offences.{is_unheard, unheard_by}
+use Rattle.lsp_verdict.specs.Offences.{has_no_message, is_no_message, is_unheard, is_unsynced}
+use Rattle.lsp_verdict.specs.Offences.{unheard_by, unsynced_by}
 use Rattle.lsp_verdict.proofs.LookBackLemmas.{first_of-snoc, each_of-snoc}
 use Rattle.lsp_verdict.proofs.Offences.Offending.{kept_more}
 
@@ -68,6 +69,13 @@ pub unheard-push : (terms : Terms) (notes : List Noted) (n : Noted)
 unheard-push terms notes n = ap is_some (first_of-snoc (unheard_by terms) notes n)
     ∙ some_or (first_of (unheard_by terms) notes) (unheard_by terms notes n)
 
+-- synchronisation was registered by this event, or before
+pub unsynced-push : (terms : Terms) (notes : List Noted) (n : Noted)
+    → is_unsynced terms (notes ++ n ∷ [])
+    ≡ (is_unsynced terms notes || is_some (unsynced_by terms notes n))
+unsynced-push terms notes n = ap is_some (first_of-snoc (unsynced_by terms) notes n)
+    ∙ some_or (first_of (unsynced_by terms) notes) (unsynced_by terms notes n)
+
 -- the events of the notes
 pub events_of-push : (notes : List Noted) (n : Noted) → events_of (notes ++ n ∷ []) ≡ events_of notes ++ n.event ∷ []
 events_of-push notes n = map-append (λ (m : Noted). m.event) notes (n ∷ [])
@@ -80,6 +88,13 @@ pub has_broken-push : (side : Side) (events : List Event) (e : Event)
 has_broken-push side events e =
     list_any-append (is_frame_fault side) events (e ∷ [])
     ∙ ap (λ b. has_broken side events || b) (or-false (is_frame_fault side e))
+
+-- a content of it was no message by this event, or before
+pub has_no_message-push : (side : Side) (events : List Event) (e : Event)
+    → has_no_message side (events ++ e ∷ []) ≡ (has_no_message side events || is_no_message side e)
+has_no_message-push side events e =
+    list_any-append (is_no_message side) events (e ∷ [])
+    ∙ ap (λ b. has_no_message side events || b) (or-false (is_no_message side e))
 
 -- its last event is this one, where that is one of it
 pub is_unread-push : (side : Side) (events : List Event) (e : Event)

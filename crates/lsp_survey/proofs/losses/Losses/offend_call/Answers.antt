@@ -16,4 +16,4 @@ pub returns-clause-follows : goal.returns-clause-follows
 returns-clause-follows c = λ terms before losses stands.
     c.follows-follows.ensures terms before losses stands
     ∙ ap (λ on_lost. follows_of terms before c.args.rule on_lost c.args.late)
-    c.in_ok-on_lost.ensures
+    (c.in_ok-on_lost.ensures terms before losses)

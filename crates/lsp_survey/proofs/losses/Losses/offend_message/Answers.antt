@@ -5,11 +5,12 @@ use Rattle.lsp_docs.specs.Taken.{call_view}
 use Rattle.lsp_rpc.specs.View.{message_view}
 use Rattle.lsp_types.specs.declared.rules.TheConstants as rules
 use Rattle.lsp_survey.specs.Lost.{follows_of}
-use Rattle.lsp_survey.specs.Notes.{Leaves, Passes, is_noted_lost, sides_read}
+use Rattle.lsp_survey.specs.Notes.{Leaves, Passes, sides_read}
 use Rattle.lsp_survey.specs.declared.losses.Losses.{Losses}
 use Rattle.lsp_survey.specs.declared.notes.passed.Passed.{Passed}
 use Rattle.lsp_verdict.specs.Event.{calls}
-use Rattle.lsp_verdict.specs.Offences.{breaks_handshake, events_of, is_reopened, kept_of}
+use Rattle.lsp_verdict.specs.Offences.{breaks_handshake, events_of, is_on_lost, is_reopened, kept_of}
+use Rattle.lsp_verdict.specs.Offences.{leaves_unsynced}
 use Rattle.lsp_survey.proofs.PassedSteps.{message_initialized, message_passes, message_unheard}
 use Rattle.lsp_survey.proofs.SidesSteps.{message_after, message_answers}
 use Rattle.lsp_survey.proofs.losses.Losses.offend_message.Goals as goal
@@ -25,7 +26,7 @@ returns c = λ terms before event losses same holds is.
     let told = c.in_ok-follows.ensures in (
       told.follows terms before losses holds.sent
           ∙ ap (λ late. follows_of terms before rule
-          (is_noted_lost old.documents.map.entries said) late)
+          (is_on_lost terms before said) late)
           (c.message_follows-late.ensures terms before event losses is),
       record {
         is_broken = ap (λ (l : Losses). l.handshake) told.stays
@@ -43,6 +44,8 @@ returns c = λ terms before event losses same holds is.
             (ap (λ b. b || rule == rules.INITIALIZED_NOT_FIRST)
             (c.is_initialized.ensures ∙ message_initialized side message event is)
             ∙ message_unheard side message event is rule);
+        unsynced = ap (λ (l : Losses). l.unsynced || rule == rules.DYNAMIC_REGISTRATION) told.stays
+            ∙ ap (λ e. old.unsynced || leaves_unsynced rule e) (sym is.1);
         noted = subst (λ (t : Terms). Leaves (Some rule) None (is_reopened t (calls kept) said) said
             old.documents.map.entries c.offend_call.new.self.documents.map.entries) same
             (told.noted (calls kept) holds.called);

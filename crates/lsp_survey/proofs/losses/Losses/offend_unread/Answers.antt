@@ -38,6 +38,7 @@ returns c =
               (subst (λ (o : Option Ident). SetsAny side o mid.passed c.note_asked.new.self)
               meant.asked c.in_ok-note_asked.ensures));
           unheard = ap (λ (l : Losses). l.unheard) noted.stays ∙ sym (or-false old.unheard);
+          unsynced = ap (λ (l : Losses). l.unsynced) noted.stays ∙ sym (or-false old.unsynced);
           noted = subst (λ (w : Notes). Leaves (Some rule) (option_and_then brought_by malformed)
               false None w.map.entries c.note_malformed.new.notes.map.entries)
               (ap (λ (l : Losses). l.documents) noted.stays)

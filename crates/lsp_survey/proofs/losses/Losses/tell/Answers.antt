@@ -26,7 +26,7 @@ returns-in_ok-note_kept-in-Kept-clause-told c = λ terms before h losses seen.
     message_kept terms before h _ (sym seen.says) seen.noted
     (subst (HasFate terms before h) c.in-Kept.is seen.fate).0 c.in-Content.side _ _ _ losses
     (seen.is ∙ ap raw_view c.in-Content.is) c.in_ok-note_kept-in-Kept.ensures
-    c.after_message-self.ensures refl refl refl
+    c.after_message-self.ensures refl refl refl refl
 
 pub returns-in_default-clause-told : goal.returns-in_default-clause-told
 returns-in_default-clause-told c = λ terms before h losses seen.
