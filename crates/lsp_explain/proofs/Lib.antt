@@ -48,5 +48,7 @@ pub mod Written
 pub mod QuietRuns
 pub mod BehindSteps
 pub mod NotedSteps
+pub mod NoteLines
+pub mod NoteNumbers
 pub mod NotesBeside
 pub mod ComparedTexts
