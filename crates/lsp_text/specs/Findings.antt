@@ -1,7 +1,8 @@
 -- What of a change does not fit the text that it is made in: a position past the end, and a range's
 -- length that is not that of the text in the range. No rule refuses either.
-use Rattle.std.specs.Prelude.{ℕ, ℤ, pos, nat_lt, List, [], ◌∷◌, ◌++◌, if◌then◌else◌, length}
-use Rattle.std.specs.Prelude.{slice_range, slice_get, Option, Some, None, Result, Ok, Err}
+use Rattle.std.specs.Prelude.{ℕ, ℤ, pos, int_lt, nat_lt, Bool, ◌||◌, List, [], ◌∷◌, ◌++◌, length}
+use Rattle.std.specs.Prelude.{if◌then◌else◌, slice_range, slice_get, Option, Some, None, Result}
+use Rattle.std.specs.Prelude.{Ok, Err}
 use Rattle.std.specs.Option.{option_or, option_and_then}
 use Rattle.std.specs.Ordering.{int_eq}
 use Rattle.lsp_types.specs.declared.position.Encoding.{Encoding}
@@ -62,10 +63,14 @@ abbrev pub lengths_of : List ℕ → ℤ → OtherLength
 lengths_of t sent =
     record { sent = sent; utf8 = units Utf8 t; utf16 = units Utf16 t; utf32 = units Utf32 t }
 
--- the same where this is not how long the text is
+-- it is no length (LSP 3.17, `uinteger`), or that of so many units
+abbrev pub is_no_other : ℤ → ℕ → Bool
+is_no_other sent units = int_lt sent (pos 0) || int_eq sent (pos units)
+
+-- the same where this is another length than that of the text
 abbrev pub other_length : Encoding → List ℕ → ℤ → Option OtherLength
 other_length enc t sent =
-    if int_eq sent (pos (units enc t)) then None else Some (lengths_of t sent)
+    if is_no_other sent (units enc t) then None else Some (lengths_of t sent)
 
 abbrev pub length_of : Encoding → List ℕ → Option ℤ → Option OtherLength
 length_of enc t sent = option_and_then (other_length enc t) sent
