@@ -14,6 +14,8 @@ use Rattle.lsp_text.specs.Places.{units, place_of}
 use Rattle.lsp_text.specs.Edits.{Edit, applied}
 use Rattle.lsp_text.specs.declared.findings.Extent.{Extent}
 use Rattle.lsp_text.specs.declared.findings.Extent.TheVariants.{Lines, Units}
+use Rattle.lsp_text.specs.declared.findings.Fit.{Fit}
+use Rattle.lsp_text.specs.declared.findings.Fit.TheVariants.{Within, Past, Nowhere}
 use Rattle.lsp_text.specs.declared.findings.PastEnd.{PastEnd}
 use Rattle.lsp_text.specs.declared.findings.OtherLength.{OtherLength}
 use Rattle.lsp_text.specs.declared.findings.Findings.{Findings}
@@ -35,6 +37,19 @@ extent_in enc ls p = extent_at enc (length ls) p.column (slice_get ls p.line)
 -- how far a text goes, where a position lies past its end
 abbrev pub text_extent : Encoding → List ℕ → Position → Option Extent
 text_extent enc t p = extent_in enc (lines_of t) p
+
+-- how a position fits that denotes a place
+abbrev pub fit_by : Option Extent → Fit
+fit_by None = Within
+fit_by (Some e) = Past e
+
+abbrev pub fit_at : Option ℕ → Option Extent → Fit
+fit_at None e = Nowhere
+fit_at (Some k) e = fit_by e
+
+-- **how a position fits a text**
+abbrev pub fit_in : Encoding → List ℕ → Position → Fit
+fit_in enc t p = fit_at (place_of enc t p) (text_extent enc t p)
 
 -- that position
 abbrev pub past_by : Position → Option Extent → Option PastEnd

@@ -24,6 +24,17 @@ pub enum Extent {
     Units(u64),
 }
 
+/// How a position fits a text.
+#[derive(Clone, Copy, Debug, PartialEq, Eq)]
+pub enum Fit {
+    /// It is a place of the text.
+    Within,
+    /// It lies past the end: it denotes the end of its line, or of the text.
+    Past(Extent),
+    /// It lies inside a character, and denotes no place.
+    Nowhere,
+}
+
 /// A position past the end of a text.
 #[derive(Clone, Copy, Debug, PartialEq, Eq)]
 pub struct PastEnd {
@@ -77,6 +88,16 @@ impl Findings {
     {
         self.past_end = self.past_end.or(more.past_end);
         self.range_length = self.range_length.or(more.range_length);
+    }
+}
+
+/// How a position fits that denotes a place of a text, which goes so far where it lies past the end.
+pub(crate) fn fit_by(extent: Option<Extent>) -> Fit
+    ensures { result ≡ spec.fit_by extent }
+{
+    match extent {
+        Some(extent) => Fit::Past(extent),
+        None => Fit::Within,
     }
 }
 
