@@ -19,6 +19,7 @@ pub mod EditsByKind
 pub mod ServerNoting
 pub mod EditedTexts
 pub mod LateSteps
+pub mod Sorting
 pub mod AtOnceSteps
 pub mod EditedMessages
 pub mod Changing
