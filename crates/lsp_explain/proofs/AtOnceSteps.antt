@@ -1,12 +1,12 @@
 -- What edits make of a text, as the code makes it.
-use Rattle.std.specs.Prelude.{not, if◌then◌else◌, option_and_then, option_map}
-use Rattle.std.specs.List.{fold, insert, prefix_len}
+use Rattle.std.specs.Prelude.{if◌then◌else◌, option_and_then, option_map}
+use Rattle.std.specs.Cmp.{IsStrictWeakOrder}
 use Rattle.std.specs.Str.{chars, IsUtf8}
 use Rattle.std.proofs.Common.{◌≡◌, ◌≤◌, ◌<◌, ◌+◌, ◌-◌, ℕ, Bool, true, false, List, [], ◌∷◌, ◌++◌}
 use Rattle.std.proofs.Common.{Option, Some, None, refl, sym, ap, ◌∙◌, arith, append_assoc}
-use Rattle.std.proofs.Common.{drop, get_or, length, subst, take, ⊎_elim}
-use Rattle.std.proofs.lemmas.List.{drop-map, drop_all, drop_at, drop_more, length-take-le, map-append}
-use Rattle.std.proofs.lemmas.List.{take-map, take_all}
+use Rattle.std.proofs.Common.{append-nil, drop, get_or, length, subst, take, ⊎_elim}
+use Rattle.std.proofs.lemmas.Bool.Decides.{nat_tests}
+use Rattle.std.proofs.lemmas.List.{drop_all, drop_at, drop_more, length-take-le, take_all}
 use Rattle.std.proofs.lemmas.Str.{IsUtf8-append, IsUtf8-drop, IsUtf8-nil, IsUtf8-take, chars-append}
 use Rattle.std.proofs.lemmas.Str.{chars-nil}
 use Rattle.lsp_types.specs.declared.position.Encoding.{Encoding}
@@ -18,12 +18,10 @@ use Rattle.lsp_text.proofs.Splices.{chars-cut}
 use Rattle.lsp_text.proofs.Widths.{IsFront, is_front, units-utf32}
 use Rattle.lsp_docs.specs.Calls.{Text}
 use Rattle.lsp_explain.specs.AtOnce.{IsPut, IsSplit, Splice, and_splices, back_of, front_of, in_order}
-use Rattle.lsp_explain.specs.AtOnce.{is_behind, is_first, is_next, is_text, made_from, makes}
-use Rattle.lsp_explain.specs.AtOnce.{placed, splice_of, splice_view, splice_with, splices_of}
-use Rattle.lsp_explain.specs.AtOnce.{splices_view}
+use Rattle.lsp_explain.specs.AtOnce.{is_first, is_next, is_text, made_from, makes}
+use Rattle.lsp_explain.specs.AtOnce.{splice_of, splice_view, splice_with, splices_of, splices_view}
 use Rattle.lsp_explain.specs.declared.notes.at_once.Splice as code
 use Rattle.lsp_explain.specs.declared.notes.texts_since.Stretch.{Stretch}
-use Rattle.lsp_explain.proofs.Fitting.{prefix_len-map}
 
 -- ---- a text that is cut behind some characters
 
@@ -177,43 +175,44 @@ pub splices_from : (ss : List code.Splice) (i : ℕ) (d : code.Splice) → i < l
     → splices_view (drop i ss) ≡ splice_view (get_or ss i d) ∷ splices_view (drop (i + 1) ss)
 splices_from ss i d lt = ap splices_view (drop_more ss i d lt)
 
--- one more
-pub placed-view : (done : List code.Splice) (one : code.Splice) (n : ℕ)
-    → n ≡ prefix_len (λ (s : code.Splice). not (is_first one.at s.at)) done
-    → splices_view (insert done n one) ≡ placed (splices_view done) (splice_view one)
-placed-view done one n is =
-    let test = λ (s : Splice). is_behind (splice_view one) s in
-    insert-view n ∙ ap (λ k. insert (splices_view done) k (splice_view one))
-    (is ∙ sym (prefix_len-map splice_view test done))
-  where
-    insert-view : (k : ℕ) → splices_view (insert done k one)
-        ≡ insert (splices_view done) k (splice_view one)
-    insert-view k =
-        map-append splice_view (take k done) (one ∷ drop k done)
-        ∙ (λ j. sym (take-map splice_view k done) j
-        ++ splice_view one ∷ sym (drop-map splice_view k done) j)
+-- those that are found and those that are left, in order
+abbrev pub found_all : List Splice → Option (List Splice) → Option (List Splice)
+found_all found left = option_map (λ ss. in_order (found ++ ss)) left
 
--- those that are placed, and those that are left, in order
-abbrev pub placed_all : List Splice → Option (List Splice) → Option (List Splice)
-placed_all done left = option_map (λ ss. fold placed done ss) left
+module _ (enc : Encoding) (t : Text) (found : List Splice) (e : Edit) (more : List Edit) where
+  pub none_found : None ≡ splice_of enc t e
+      → None ≡ found_all found (splices_of enc t (e ∷ more))
+  none_found is =
+      ap (λ o. found_all found (option_and_then (and_splices (splices_of enc t more)) o)) is
 
-module _ (enc : Encoding) (t : Text) (done : List Splice) (e : Edit) (more : List Edit) where
-  pub none_placed : None ≡ splice_of enc t e
-      → None ≡ placed_all done (splices_of enc t (e ∷ more))
-  none_placed is =
-      ap (λ o. placed_all done (option_and_then (and_splices (splices_of enc t more)) o)) is
-
-  pub one_placed : (s : Splice) → Some s ≡ splice_of enc t e
-      → placed_all (placed done s) (splices_of enc t more)
-      ≡ placed_all done (splices_of enc t (e ∷ more))
-  one_placed s is =
+  pub one_found : (s : Splice) → Some s ≡ splice_of enc t e
+      → found_all (found ++ s ∷ []) (splices_of enc t more)
+      ≡ found_all found (splices_of enc t (e ∷ more))
+  one_found s is =
       by_more (splices_of enc t more)
-      ∙ ap (λ o. placed_all done (option_and_then (and_splices (splices_of enc t more)) o)) is
+      ∙ ap (λ o. found_all found (option_and_then (and_splices (splices_of enc t more)) o)) is
     where
       by_more : (o : Option (List Splice))
-          → placed_all (placed done s) o ≡ placed_all done (and_splices o s)
+          → found_all (found ++ s ∷ []) o ≡ found_all found (and_splices o s)
       by_more None = refl
-      by_more (Some ss) = refl
+      by_more (Some ss) = ap (λ (l : List Splice). Some (in_order l)) (append_assoc found (s ∷ []) ss)
+
+-- none is left
+pub all_found : (found : List Splice) → Some (in_order found) ≡ found_all found (Some [])
+all_found found = ap (λ (l : List Splice). Some (in_order l)) (sym (append-nil found))
+
+-- stretches in their order
+pub ordered : IsStrictWeakOrder is_first
+ordered = record {
+  one_way = λ a b is. grind (arith, nat_tests);
+  chain = λ a b c is also. grind (arith, nat_tests);
+}
+
+pub splices_ordered : IsStrictWeakOrder (λ (a b : code.Splice). is_first a.at b.at)
+splices_ordered = record {
+  one_way = λ a b. ordered.one_way a.at b.at;
+  chain = λ a b c. ordered.chain a.at b.at c.at;
+}
 
 -- ---- the text that they make
 

@@ -1,27 +1,31 @@
 -- The text that `explain --by-messages` or `--in-editor` writes is that of the first event that
 -- offends.
-use Rattle.std.specs.Prelude.{unwrap_or}
+use Rattle.std.specs.Prelude.{option_map, unwrap_or}
 use Rattle.std.specs.Option.{option_or}
-use Rattle.std.proofs.Common.{◌≡◌, ◌∙◌, ℕ, List, [], ◌∷◌, ◌++◌, Option, Some, None, ap, refl, sym}
+use Rattle.std.proofs.Common.{◌≡◌, ◌∙◌, ℕ, List, [], ◌∷◌, ◌++◌, Option, Some, None, ap, refl, subst, sym}
+use Rattle.std.proofs.lemmas.Option.{same_Some}
 use Rattle.lsp_docs.specs.Documents.{Terms}
+use Rattle.lsp_facts.specs.TwoTexts.{TwoTexts, texts_at}
 use Rattle.lsp_frame.specs.Bounds.{Bounds}
 use Rattle.lsp_frame.specs.declared.format.Format.{Format}
 use Rattle.lsp_log.specs.Log.{Record}
+use Rattle.lsp_log.specs.declared.fault.LogCode.{LogCode}
 use Rattle.lsp_replay.specs.Run.{IsTold, Tail}
-use Rattle.lsp_replay.specs.Telling.{rule_of}
+use Rattle.lsp_replay.specs.Telling.{kept_before, rule_of}
 use Rattle.lsp_replay.proofs.AllHeard.{first_after, none_is}
 use Rattle.lsp_replay.proofs.Seeing.{events-push}
-use Rattle.lsp_replay.proofs.TextRuns.{is_text}
+use Rattle.lsp_replay.proofs.TextRuns.{CanEnd, bad_ends, is_text, same_ends, text_ends}
 use Rattle.lsp_survey.proofs.SurveySteps.{survey_told}
 use Rattle.lsp_verdict.specs.Heard.{Heard, heard_events, notes_of}
 use Rattle.lsp_verdict.specs.LookBack.{first_from, first_of}
 use Rattle.lsp_verdict.specs.Outcome.{ending, log_terms}
 use Rattle.lsp_verdict.specs.Survey as survey
-use Rattle.lsp_verdict.specs.Verdict.{bad_log_of, first_no, summary}
+use Rattle.lsp_verdict.specs.Shown.{TextAnswer}
+use Rattle.lsp_verdict.specs.Verdict.{bad_log_of, first_no, offence, summary}
 use Rattle.lsp_verdict.specs.declared.completeness.Completeness.TheVariants.{Ignored}
 use Rattle.lsp_verdict.proofs.Offences.Offending.{all_are_kept}
 use Rattle.lsp_explain.specs.Compared.{AnswersCompared, answer_after, answer_at, answer_behind}
-use Rattle.lsp_explain.specs.Compared.{sound_answer}
+use Rattle.lsp_explain.specs.Compared.{answer_of, one_of, sound_answer}
 use Rattle.lsp_explain.specs.ExplainLaws.{ComparedTextIsOfSurvey}
 use Rattle.lsp_explain.specs.declared.compared.ComparedText.{ComparedText}
 use Rattle.lsp_explain.proofs.Comparing.{answer_is}
@@ -81,3 +85,30 @@ pub compared_text_is_of_survey : ComparedTextIsOfSurvey
 compared_text_is_of_survey which limits log out outcome p =
     is_text (answer_after which) answer_behind limits (AnswersCompared which limits)
     (compared_told which limits) log out outcome p
+
+-- ---- each answer is one that a run can end with
+
+named_ends : (which : ComparedText) (named : ℕ → Option TwoTexts) (o : Option ℕ)
+    (answer : TextAnswer) → option_map (λ rule. answer_of which (named rule)) o ≡ Some answer
+    → CanEnd answer
+named_ends which named None answer is = absurd (cc is)
+named_ends which named (Some rule) answer is =
+    subst CanEnd (same_Some (answer_of which (named rule)) answer is) (by_texts (named rule))
+  where
+    by_texts : (o : Option TwoTexts) → CanEnd (answer_of which o)
+    by_texts None = same_ends
+    by_texts (Some texts) = text_ends (one_of which texts)
+
+pub after_ends : (which : ComparedText) (terms : Terms) (before : List Heard) (h : Heard)
+    (answer : TextAnswer) → answer_after which terms before h ≡ Some answer → CanEnd answer
+after_ends which terms before h =
+    let kept = kept_before terms before in
+    named_ends which (texts_at terms kept h.note.event) (offence terms kept h.note.event)
+
+pub behind_ends : (terms : Terms) (heard : List Heard) (tail : Tail)
+    → CanEnd (answer_behind terms heard tail)
+behind_ends terms heard tail = by_fault tail.fault
+  where
+    by_fault : (fault : Option (ℕ × LogCode)) → CanEnd (sound_answer (bad_log_of fault))
+    by_fault None = same_ends
+    by_fault (Some flaw) = bad_ends flaw.0 flaw.1

@@ -1,15 +1,14 @@
 -- What the server's edits are in the texts of a document, as the code has it.
 use Rattle.std.specs.Prelude.{◌||◌, MatchOption, get_or, int_lt, is_none, is_some, nat_lt, not}
 use Rattle.std.specs.Borrow.{Bor}
-use Rattle.std.specs.Prelude.{if◌then◌else◌, Result, Ok, Err, option_map, option_to_list, ℤ}
-use Rattle.std.specs.List.{cons_option, find}
-use Rattle.std.specs.Option.{option_or}
-use Rattle.std.specs.Str.{chars}
+use Rattle.std.specs.Prelude.{if◌then◌else◌, option_map, option_to_list, ℤ}
+use Rattle.std.specs.List.{cons_option}
 use Rattle.std.proofs.Common.{◌≡◌, ◌<◌, ◌+◌, ℕ, Bool, true, false, List, [], ◌∷◌, ◌++◌, Option, Some}
-use Rattle.std.proofs.Common.{None, refl, sym, ap, ◌∙◌, append-nil, append_assoc, arith}
-use Rattle.std.proofs.Common.{cond, drop, length, suc, take, zero}
+use Rattle.std.proofs.Common.{None, refl, sym, ap, ◌∙◌, append_assoc, arith}
+use Rattle.std.proofs.Common.{drop, length, suc, zero}
+use Rattle.std.proofs.Math.Bool.{or-false, or-true}
 use Rattle.std.proofs.lemmas.Bool.Decides.{nat_tests}
-use Rattle.std.proofs.lemmas.List.{drop_more, map-append, take-append-drop}
+use Rattle.std.proofs.lemmas.List.{drop_more, map-append}
 use Rattle.std.proofs.lemmas.List.Elements.{filter-append, filter_map-append}
 use Rattle.serde_json.specs.View.{items_view}
 use Rattle.serde_json.specs.declared.value.Value.{Value}
@@ -18,15 +17,14 @@ use Rattle.lsp_docs.specs.Documents.{Version}
 use Rattle.lsp_docs.specs.Rules.{text_at}
 use Rattle.lsp_types.specs.declared.change.Change.{Change}
 use Rattle.lsp_types.specs.declared.position.Encoding.{Encoding}
-use Rattle.lsp_types.specs.declared.position.Encoding.TheVariants.{Utf8}
 use Rattle.lsp_types.specs.declared.position.Position.{Position}
-use Rattle.lsp_types.specs.declared.rules.TheConstants as rules
 use Rattle.lsp_text.specs.Changes.{edits_of}
 use Rattle.lsp_text.specs.Counted.{Counted}
-use Rattle.lsp_text.specs.Edits.{limited, replaced, spliced}
-use Rattle.lsp_text.specs.Findings.{past_by, past_of, text_extent}
-use Rattle.lsp_text.specs.Places.{place_of, units}
-use Rattle.lsp_text.specs.declared.findings.PastEnd.{PastEnd}
+use Rattle.lsp_text.specs.Findings.{fit_at, fit_in, text_extent}
+use Rattle.lsp_text.specs.Places.{place_of}
+use Rattle.lsp_text.specs.declared.findings.Extent.{Extent}
+use Rattle.lsp_text.specs.declared.findings.Fit.{Fit}
+use Rattle.lsp_text.specs.declared.findings.Fit.TheVariants.{Nowhere, Past, Within}
 use Rattle.lsp_explain.specs.LateEdits.{are_held, most_size}
 use Rattle.lsp_explain.specs.SentEdits.{edits_size}
 use Rattle.lsp_explain.specs.TextEdits.{count_of}
@@ -44,81 +42,22 @@ count_is (v ∷ values) = ap (λ n. n + 1) (count_is values) ∙ plus_one (lengt
 
 -- ---- a position outside
 
--- nothing is replaced by nothing
-splice_none : (t : List ℕ) (a : ℕ) → take a t ++ [] ++ drop a t ≡ t
-splice_none t a = ap (λ l. l ++ drop a t) (append-nil (take a t)) ∙ take-append-drop a t
+-- by how it fits
+abbrev pub says_outside : Position → Fit → Bool
+says_outside p Within = false
+says_outside p (Past e) = is_past p (Some e)
+says_outside p Nowhere = true
 
--- at one place
-spliced_none : (t : List ℕ) (o : Option ℕ) (limit : ℕ) → nat_lt limit (units Utf8 t) ≡ false
-    → spliced t o o [] limit
-    ≡ (if is_none o then Err rules.POSITION_INSIDE_CHARACTER else Ok t)
-spliced_none t None limit fits = refl
-spliced_none t (Some a) limit fits =
-    ap (λ (b : Bool). cond b (Err rules.RANGE_REVERSED) (limited limit (take a t ++ [] ++ drop a t)))
-    (not_less a)
-    ∙ ap (limited limit) (splice_none t a)
-    ∙ ap (λ (b : Bool). cond b (Err rules.DOCUMENT_OVER_LIMIT) (Ok t)) fits
+pub outside_is : (enc : Encoding) (t : List ℕ) (p : Position) (f : Fit) → f ≡ fit_in enc t p
+    → says_outside p f ≡ is_outside enc p t
+outside_is enc t p f is =
+    ap (says_outside p) is ∙ by_place (place_of enc t p) (text_extent enc t p)
   where
-    not_less : (n : ℕ) → nat_lt n n ≡ false
-    not_less n = grind (arith, nat_tests)
-
--- so of a position it is told whether it lies inside a character
-pub replaced_none : (enc : Encoding) (t : List ℕ) (p : Position) (limit : ℕ)
-    → nat_lt limit (units Utf8 t) ≡ false
-    → replaced enc t (record { first = p; second = p }) [] limit
-    ≡ (if is_none (place_of enc t p) then Err rules.POSITION_INSIDE_CHARACTER else Ok t)
-replaced_none enc t p limit fits = spliced_none t (place_of enc t p) limit fits
-
--- and whether it is past the end
-pub past_once : (enc : Encoding) (t : List ℕ) (p : Position)
-    → past_of enc t (record { first = p; second = p }) ≡ past_by p (text_extent enc t p)
-past_once enc t p = same (past_by p (text_extent enc t p))
-  where
-    same : (o : Option PastEnd) → option_or o o ≡ o
-    same None = refl
-    same (Some x) = refl
-
-or_false : (b : Bool) → (b || false) ≡ b
-or_false true = refl
-or_false false = refl
-
-or_true : (b : Bool) → (b || true) ≡ true
-or_true true = refl
-or_true false = refl
-
--- the replacement is made
-pub outside_made : (enc : Encoding) (t u : List ℕ) (p : Position) (past : Bool)
-    (r : Result (List ℕ) ℕ)
-    → r ≡ (if is_none (place_of enc t p) then Err rules.POSITION_INSIDE_CHARACTER else Ok t)
-    → r ≡ Ok u → past ≡ is_past p (text_extent enc t p) → past ≡ is_outside enc p t
-outside_made enc t u p past r is made past_is =
-    past_is ∙ by_place (is_none (place_of enc t p)) refl
-  where
-    by_place : (b : Bool) → is_none (place_of enc t p) ≡ b
-        → is_past p (text_extent enc t p) ≡ is_outside enc p t
-    by_place true none =
-        let refused : Err rules.POSITION_INSIDE_CHARACTER ≡ Ok u =
-        sym (ap (λ (b : Bool). if b then Err rules.POSITION_INSIDE_CHARACTER else Ok t) none)
-        ∙ sym is ∙ made in absurd (cc refused)
-    by_place false some =
-        sym (ap (λ (b : Bool). is_past p (text_extent enc t p) || b) some
-        ∙ or_false (is_past p (text_extent enc t p)))
-
--- it is refused
-pub outside_refused : (enc : Encoding) (t : List ℕ) (p : Position) (rule : ℕ)
-    (r : Result (List ℕ) ℕ)
-    → r ≡ (if is_none (place_of enc t p) then Err rules.POSITION_INSIDE_CHARACTER else Ok t)
-    → r ≡ Err rule → true ≡ is_outside enc p t
-outside_refused enc t p rule r is refused = by_place (is_none (place_of enc t p)) refl
-  where
-    by_place : (b : Bool) → is_none (place_of enc t p) ≡ b → true ≡ is_outside enc p t
-    by_place true none =
-        sym (ap (λ (b : Bool). is_past p (text_extent enc t p) || b) none
-        ∙ or_true (is_past p (text_extent enc t p)))
-    by_place false some =
-        let made : Ok t ≡ Err rule =
-        sym (ap (λ (b : Bool). if b then Err rules.POSITION_INSIDE_CHARACTER else Ok t) some)
-        ∙ sym is ∙ refused in absurd (cc made)
+    by_place : (o : Option ℕ) (e : Option Extent)
+        → says_outside p (fit_at o e) ≡ (is_past p e || is_none o)
+    by_place None e = sym (or-true (is_past p e))
+    by_place (Some k) None = refl
+    by_place (Some k) (Some e) = sym (or-false (is_past p (Some e)))
 
 -- ---- those that are small enough
 
@@ -145,19 +84,6 @@ pub some_held : (edits : List Change) → 0 < length edits
     → not (nat_lt most_size (edits_size (edits_of edits))) ≡ are_held (edits_of edits)
 some_held [] some = absurd (omega arith)
 some_held (e ∷ edits) some = refl
-
--- ---- a text whose size is the limit
-
-pub fits_itself : (t : List ℕ) (limit : ℕ) → limit ≡ units Utf8 t
-    → nat_lt limit (units Utf8 t) ≡ false
-fits_itself t limit is = ap (λ n. nat_lt n (units Utf8 t)) is ∙ not_below (units Utf8 t)
-  where
-    not_below : (n : ℕ) → nat_lt n n ≡ false
-    not_below n = grind (arith, nat_tests)
-
-pub no_characters : chars [] ≡ []
-unfolding chars
-no_characters = refl
 
 -- ---- texts, as they are gathered
 
@@ -221,22 +147,3 @@ texts_next kept v version numbers i n whole done new lt is so more =
     ∙ ap (λ l. done ++ l) split
     ∙ sym (append_assoc done (of (n ∷ [])) (of rest))
     ∙ ap (λ l. l ++ of rest) (sym more)
-
--- ---- a range
-
--- its first position that fits
-pub first_end : (f : Position → Bool) (p q : Position) → f p ≡ true
-    → Some p ≡ find f (p ∷ q ∷ [])
-first_end f p q is = sym (ap (λ (b : Bool). if b then Some p else find f (q ∷ [])) is)
-
-pub second_end : (f : Position → Bool) (p q : Position) → f p ≡ false → f q ≡ true
-    → Some q ≡ find f (p ∷ q ∷ [])
-second_end f p q first is =
-    sym (ap (λ (b : Bool). if b then Some p else find f (q ∷ [])) first
-    ∙ ap (λ (b : Bool). if b then Some q else None) is)
-
-pub no_end : (f : Position → Bool) (p q : Position) → f p ≡ false → f q ≡ false
-    → None ≡ find f (p ∷ q ∷ [])
-no_end f p q first also =
-    sym (ap (λ (b : Bool). if b then Some p else find f (q ∷ [])) first
-    ∙ ap (λ (b : Bool). if b then Some q else None) also)

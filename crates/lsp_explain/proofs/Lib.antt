@@ -19,6 +19,7 @@ pub mod EditsByKind
 pub mod ServerNoting
 pub mod EditedTexts
 pub mod LateSteps
+pub mod Sorting
 pub mod AtOnceSteps
 pub mod EditedMessages
 pub mod Changing
@@ -48,5 +49,7 @@ pub mod Written
 pub mod QuietRuns
 pub mod BehindSteps
 pub mod NotedSteps
+pub mod NoteLines
+pub mod NoteNumbers
 pub mod NotesBeside
 pub mod ComparedTexts

@@ -1,5 +1,5 @@
 -- A log has one explanation, and one of all that is wrong with it, with the notes or without.
-use Rattle.std.specs.Prelude.{filter, if◌then◌else◌, option_map}
+use Rattle.std.specs.Prelude.{filter, if◌then◌else◌, is_some, option_map}
 use Rattle.std.specs.List.{AllZip, cons_option, flat_map}
 use Rattle.std.proofs.Common.{◌≡◌, ℕ, Bool, true, false, List, [], ◌∷◌, ◌++◌, Option, Some, None, refl}
 use Rattle.std.proofs.Common.{sym, ap, subst, ◌∙◌}
@@ -10,11 +10,13 @@ use Rattle.lsp_facts.proofs.SomeFacts.{some_facts}
 use Rattle.lsp_replay.specs.Run.{IsJudged, Tail}
 use Rattle.lsp_replay.specs.RunLaws.{IsSameEnd}
 use Rattle.lsp_replay.specs.Telling.{rule_of}
+use Rattle.lsp_replay.proofs.GivenVerdicts.{end_given, some_judged, some_no}
 use Rattle.lsp_replay.proofs.Outputs.{IsExact, IsTotal, has_one, judged_same}
 use Rattle.lsp_survey.specs.SessionEnds.{all_verdict, ends_of}
-use Rattle.lsp_verdict.specs.Heard.{Heard, Rests, notes_of}
+use Rattle.lsp_survey.proofs.SurveyRuns.{listed_given, some_listed}
+use Rattle.lsp_verdict.specs.Heard.{Heard, Rests, heard_events, notes_of}
 use Rattle.lsp_verdict.specs.Offences.{events_of, kept_of, rule_at}
-use Rattle.lsp_verdict.specs.Verdict.{Verdict, no_by}
+use Rattle.lsp_verdict.specs.Verdict.{Verdict, no_by, summary}
 use Rattle.lsp_verdict.specs.declared.completeness.Completeness.{Completeness}
 use Rattle.lsp_verdict.specs.declared.outcome.Outcome.{Outcome}
 use Rattle.lsp_explain.specs.AllNotes.{SaysMore, end_notes, noted_run, noted_verdict, notes_at}
@@ -140,6 +142,14 @@ one_explanation completeness = has_one (explain_run completeness) (record {
         (flaw_at tail.place tail.line tail.fault) (ends_of completeness terms heard tail),
     refl,
   );
+  ends = λ terms before h stops.
+      some_no (heard_events before) h.note.event (rule_of terms before h)
+      (λ none. absurd (cc (sym stops ∙ ap is_some none)));
+  finishes = λ terms heard tail fits.
+      let ends = ends_of completeness terms heard tail in
+      some_judged (end_verdict terms heard tail.fault ends)
+      (end_given ends tail.fault (summary terms (heard_events heard))
+      (listed_given completeness terms heard tail) fits);
 })
 
 module _ (completeness : Completeness) where
@@ -161,6 +171,8 @@ module _ (completeness : Completeness) where
           (ends_of completeness terms heard tail),
       refl,
     );
+    ends = λ terms before h stops. absurd (cc stops);
+    finishes = some_listed completeness;
   }
 
 pub one_explanation_of_all : OneExplanationOfAll
@@ -198,4 +210,6 @@ one_noted_explanation completeness = has_one (noted_run completeness) (record {
       (fact_lines (notes_at terms before h)) ((all_total completeness).says terms rests before h);
   closes = λ terms heard tail. some_more ((all_run completeness).closes terms heard tail)
       (end_lines completeness terms heard tail) ((all_total completeness).closes terms heard tail);
+  ends = λ terms before h stops. absurd (cc stops);
+  finishes = (all_total completeness).finishes;
 })

@@ -1,6 +1,6 @@
 -- What `explain --all --notes` says: of each event the notes that are found at it.
 use Rattle.std.specs.Prelude.{◌≡◌, ℕ, List, [], ◌∷◌, ◌++◌, drop, length, map, Bool, true, false}
-use Rattle.std.specs.Prelude.{◌==◌, ◌&&◌, not, is_some, if◌then◌else◌, Option, Some, None}
+use Rattle.std.specs.Prelude.{codes, ◌+◌, ◌==◌, ◌&&◌, ◌||◌, not, is_some, if◌then◌else◌, Option, Some, None}
 use Rattle.std.specs.List.{cons_option}
 use Rattle.lsp_docs.specs.Documents.{Terms}
 use Rattle.lsp_facts.specs.Fact.{Fact, fact_lines}
@@ -183,9 +183,28 @@ noted_run completeness = record {
 
 -- ---- laws
 
+-- there is a LF among these bytes
+abbrev pub has_feed : List ℕ → Bool
+has_feed [] = false
+has_feed (b ∷ bytes) = b == 10 || has_feed bytes
+
+-- **the line of a note**: it begins with `note `, and its only LF ends it
+pub record IsNote (fact : Fact) : Type 0 where
+  pub words : List ℕ
+  pub is : fact ≡ codes "note " ++ words ++ 10 ∷ []
+  pub one_line : has_feed words ≡ false
+
+abbrev pub AreNotes : List Fact → Type 0
+AreNotes [] = Unit {0}
+AreNotes (fact ∷ facts) = IsNote fact × AreNotes facts
+
 -- lines that are no notes, and the notes behind them
 abbrev pub Passage : Type 0
 Passage = List ℕ × List Fact
+
+abbrev pub HaveNotes : List Passage → Type 0
+HaveNotes [] = Unit {0}
+HaveNotes (p ∷ ps) = AreNotes p.1 × HaveNotes ps
 
 -- passages without their notes, and with them
 abbrev pub plain_of : List Passage → List ℕ
@@ -196,15 +215,20 @@ abbrev pub noted_of : List Passage → List ℕ
 noted_of [] = []
 noted_of (p ∷ ps) = (p.0 ++ fact_lines p.1) ++ noted_of ps
 
+-- how many notes they have
+abbrev pub number_of : List Passage → ℕ
+number_of [] = 0
+number_of (p ∷ ps) = length p.1 + number_of ps
+
 -- **Without its notes and their number, it is what `explain --all` writes of the log**, which ends
 -- so too.
 abbrev pub NotesAreBeside : Type 0
 NotesAreBeside =
     (completeness : Completeness) (limits : Bounds) (log out : List ℕ) (outcome : Outcome)
     → IsPassed (noted_run completeness) limits log out outcome
-    → (passages : List Passage) × (n : ℕ)
+    → (passages : List Passage) × HaveNotes passages
     × IsPassed (all_run completeness) limits log (plain_of passages) outcome
-    × (out ≡ noted_of passages ++ count_line n)
+    × (out ≡ noted_of passages ++ count_line (number_of passages))
 
 -- ---- as they are held
 

@@ -2,7 +2,6 @@
 use Rattle.std.specs.Prelude.{◌≡◌, ◌==◌, ◌&&◌, ◌||◌, ◌-◌, ℕ, nat_lt, not, Bool, false, List, []}
 use Rattle.std.specs.Prelude.{◌∷◌, ◌++◌, drop, take, if◌then◌else◌, map, Option, Some, None}
 use Rattle.std.specs.Prelude.{option_and_then, option_map}
-use Rattle.std.specs.List.{fold, insert, prefix_len}
 use Rattle.std.specs.Str.{bytes_eq, chars, IsUtf8}
 use Rattle.lsp_docs.specs.Calls.{Text}
 use Rattle.lsp_text.specs.Edits.{Edit}
@@ -41,17 +40,20 @@ abbrev pub is_first : Stretch → Stretch → Bool
 is_first a b =
     nat_lt a.first b.first || (a.first == b.first && nat_lt a.second b.second)
 
-abbrev pub is_behind : Splice → Splice → Bool
-is_behind s other = not (is_first s.at other.at)
+-- one more, behind those that come before it
+abbrev pub put_by : {X : Type 0} → (X → X → Bool) → X → List X → List X
+put_by before x [] = x ∷ []
+put_by before x (y ∷ ys) = if before y x then y ∷ put_by before x ys else x ∷ y ∷ ys
 
--- one more behind those that it does not come before
-abbrev pub placed : List Splice → Splice → List Splice
-placed done s = insert done (prefix_len (is_behind s) done) s
+-- in order; where neither of two comes before the other, they stay as they are
+abbrev pub sorted_by : {X : Type 0} → (X → X → Bool) → List X → List X
+sorted_by before [] = []
+sorted_by before (x ∷ xs) = put_by before x (sorted_by before xs)
 
 -- **in the order in which they come in the text**: an insertion comes before what is replaced at
 -- its place, and those between the same places come as they were sent
 abbrev pub in_order : List Splice → List Splice
-in_order ss = fold placed [] ss
+in_order ss = sorted_by (λ (a b : Splice). is_first a.at b.at) ss
 
 -- ---- what they make
 

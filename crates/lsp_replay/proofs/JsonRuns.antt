@@ -37,6 +37,8 @@ json_total : (run : Run) → IsTotal run → IsTotal (json_run run)
 json_total run total = record {
   says = λ terms rests before h. some_json (total.says terms rests before h);
   closes = λ terms heard tail. some_json (total.closes terms heard tail);
+  ends = total.ends;
+  finishes = total.finishes;
 }
 
 -- **a log has one output of such a run in each form**

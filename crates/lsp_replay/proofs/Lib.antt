@@ -22,6 +22,7 @@ pub mod PassEnds
 pub mod JudgedRuns
 pub mod SeenLines
 pub mod AllHeard
+pub mod GivenVerdicts
 pub mod TextRuns
 pub mod Outputs
 pub mod RunLaws

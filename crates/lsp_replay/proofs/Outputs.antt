@@ -12,13 +12,13 @@ use Rattle.lsp_log.specs.Place.{place_of, found_behind}
 use Rattle.lsp_log.specs.declared.fault.LogCode.{LogCode}
 use Rattle.lsp_replay.specs.Run.{ClosesSo, EndsAfter, IsJudged, IsPassed, IsTold, Run, SaysAll}
 use Rattle.lsp_replay.specs.Run.{StopsIn, Tail}
-use Rattle.lsp_replay.specs.RunLaws.{EndAlike, HasOneOutput, IsSameEnd, SaysOn}
+use Rattle.lsp_replay.specs.RunLaws.{CanHold, EndAlike, HasOneOutput, IsSameEnd, SaysOn}
 use Rattle.lsp_replay.proofs.FirstEvents.{some_heard, some_rests}
-use Rattle.lsp_verdict.specs.Heard.{Heard, Rests, notes_of, raws_of}
+use Rattle.lsp_verdict.specs.Heard.{Heard, Rests, heard_events, notes_of, raws_of}
 use Rattle.lsp_verdict.specs.Offences.{IsNoted}
 use Rattle.lsp_verdict.specs.Outcome.{log_terms}
 use Rattle.lsp_verdict.specs.Placed.{Placed}
-use Rattle.lsp_verdict.specs.Verdict.{Verdict}
+use Rattle.lsp_verdict.specs.Verdict.{Verdict, summary}
 use Rattle.lsp_verdict.specs.declared.outcome.Outcome.{Outcome}
 use Rattle.lsp_verdict.specs.declared.outcome.Outcome.TheVariants.{Judged}
 use Rattle.lsp_verdict.proofs.Behind.{one_rests}
@@ -40,12 +40,17 @@ pub record IsExact (run : Run) : Type 0 where
   pub finishes : (terms : Terms) (heard : List Heard) (tail : Tail) (a b : Outcome)
       → run.finishes terms heard tail a → run.finishes terms heard tail b → IsSameEnd a b
 
--- and something
+-- and something, and it ends in some way, where the summary of the log fits
 pub record IsTotal (run : Run) : Type 0 where
   pub says : (terms : Terms) (rests : Rests) (before : List Heard) (h : Heard)
       → (out : List ℕ) × run.says terms rests before h out
   pub closes : (terms : Terms) (heard : List Heard) (tail : Tail)
       → (out : List ℕ) × run.closes terms heard tail out
+  pub ends : (terms : Terms) (before : List Heard) (h : Heard) → run.stops terms before h ≡ true
+      → (outcome : Outcome) × run.ends terms before h outcome
+  pub finishes : (terms : Terms) (heard : List Heard) (tail : Tail)
+      → CanHold (summary terms (heard_events heard))
+      → (outcome : Outcome) × run.finishes terms heard tail outcome
 
 -- ---- what is told of a log
 
@@ -243,6 +248,23 @@ module _ (run : Run) (terms : Terms) (tail : Tail) where
       by_stop own rest false is =
           (own.0 ++ rest.0, inr (is, (own.0, rest.0, refl, own.1, rest.1)))
 
+  -- and so it ends
+  some_end : IsTotal run → (before hs : List Heard) (out : List ℕ)
+      → CanHold (summary terms (heard_events (before ++ hs)))
+      → SaysOn run terms tail before hs out None
+      → (outcome : Outcome) × SaysOn run terms tail before hs out (Some outcome)
+  some_end total before [] out fits says =
+      let finish = total.finishes terms before tail
+      (subst (λ (w : List Heard). CanHold (summary terms (heard_events w))) (append-nil before) fits)
+      in (finish.0, (says.0, finish.1))
+  some_end total before (h ∷ hs) out fits (inl p) =
+      let end = total.ends terms before h p.0 in (end.0, inl (p.0, p.1, end.1))
+  some_end total before (h ∷ hs) out fits (inr (goes, (said, left, is, own, more))) =
+      let later = some_end total (before ++ h ∷ []) hs left
+      (subst (λ (w : List Heard). CanHold (summary terms (heard_events w)))
+      (sym (append_assoc before (h ∷ []) hs)) fits) more in
+      (later.0, inr (goes, (said, left, is, own, later.1)))
+
 -- ---- a log
 
 module _ (run : Run) (limits : Bounds) (log out : List ℕ) (outcome : Outcome)
@@ -280,6 +302,19 @@ has_one run exact total = record {
           tail = t.tail;
           told = told.1;
           says = said.1;
+        },
+      );
+  ends = λ limits log out p fits.
+      let end = some_end run (log_terms limits p.format) p.tail total [] p.heard out
+      (fits p.format p.records p.heard p.tail p.told) p.says in (
+        end.0,
+        record {
+          format = p.format;
+          records = p.records;
+          heard = p.heard;
+          tail = p.tail;
+          told = p.told;
+          says = end.1;
         },
       );
   one = λ limits sizes log out other ended finished p q.

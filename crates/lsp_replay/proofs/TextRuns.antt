@@ -7,13 +7,14 @@ use Rattle.std.proofs.lemmas.Bool.{eq-eqb}
 use Rattle.std.proofs.lemmas.Bool.Decides.{nat_tests}
 use Rattle.std.proofs.lemmas.List.{length-map}
 use Rattle.std.proofs.lemmas.List.Elements.{filter-append}
+use Rattle.std.proofs.lemmas.Option.{same_Some}
 use Rattle.std.specs.Option.{option_or}
 use Rattle.lsp_types.specs.declared.side.Side.TheVariants.{Editor}
 use Rattle.lsp_verdict.specs.Given.{AreCounts, verdict_view}
 use Rattle.lsp_verdict.specs.Event.{Event, calls}
 use Rattle.lsp_verdict.specs.Heard.{Heard, heard_events, notes_of, Rests}
 use Rattle.lsp_verdict.specs.Offences.{Noted}
-use Rattle.lsp_verdict.specs.Verdict.{count_of, is_of, Verdict}
+use Rattle.lsp_verdict.specs.Verdict.{Verdict, bad_log, bad_log_of, count_of, is_of}
 use Rattle.lsp_verdict.specs.declared.counts.Counts.{Counts}
 use Rattle.lsp_verdict.specs.Shown.{TextAnswer, held_answer, missing_answer, BeginsText, EndsAs}
 use Rattle.lsp_verdict.specs.Shown.{IsText, no_difference, no_document, refused, text_is, too_few}
@@ -30,14 +31,16 @@ use Rattle.lsp_verdict.specs.declared.outcome.RunFault.TheVariants as faults
 use Rattle.lsp_verdict.proofs.LookBackLemmas.{first_of-append}
 use Rattle.lsp_verdict.proofs.RunsJudged.{read_map, read_within}
 use Rattle.lsp_docs.specs.Calls.{Call}
-use Rattle.lsp_docs.specs.Documents.{held, Terms}
+use Rattle.lsp_docs.specs.Documents.{Terms, Version, held}
 use Rattle.lsp_docs.specs.State as docs
 use Rattle.lsp_session.specs.State as session
 use Rattle.lsp_frame.specs.Bounds.{Bounds}
 use Rattle.lsp_frame.specs.declared.format.Format.{Format}
 use Rattle.lsp_log.specs.Log.{Record}
+use Rattle.lsp_log.specs.declared.fault.LogCode.{LogCode}
 use Rattle.lsp_replay.specs.TextAnswers.{is_reached, TextAsked, answer_by, refusal_by, text_at}
-use Rattle.lsp_replay.specs.TextAnswers.{StopsWith, WritesText, answer_run, said_of}
+use Rattle.lsp_replay.specs.TextAnswers.{StopsWith, WritesText, answer_run, end_answer, said_of}
+use Rattle.lsp_replay.specs.TextAnswers.{text_behind}
 use Rattle.lsp_replay.proofs.Seeing.{events-push}
 use Rattle.lsp_replay.specs.Telling.{Stood, kept_before, no_of, Closes, Says}
 use Rattle.lsp_replay.specs.Run.{DueAt, PartPassed, Passes, EndsAfter, IsPassed, IsTold, Run}
@@ -45,6 +48,7 @@ use Rattle.lsp_replay.specs.Run.{SaysAll, StopsIn, Tail}
 use Rattle.lsp_replay.specs.RunLaws.{HasOneOutput, IsSameEnd}
 use Rattle.lsp_replay.specs.declared.seen.Flow.{Flow}
 use Rattle.lsp_replay.specs.declared.seen.Flow.TheVariants.{GoOn, Stop}
+use Rattle.lsp_replay.proofs.GivenVerdicts.{bad_given, some_judged}
 use Rattle.lsp_replay.proofs.Outputs.{end_same, has_one, judged_same}
 use Rattle.lsp_replay.proofs.PassEnds.{IsQuiet, cut_whole, part_within, quiet_all, silent}
 
@@ -184,6 +188,25 @@ pub no_none : {A : Type 0} (o : Option A) → is_some o ≡ false → o ≡ None
 no_none None goes = refl
 no_none (Some v) goes = absurd (cc goes)
 
+-- a run ends with this answer
+abbrev pub CanEnd : TextAnswer → Type 0
+CanEnd answer = (outcome : Outcome) × EndsAs answer outcome
+
+pub text_ends : (text : List ℕ) → CanEnd (text_is text)
+text_ends text = (Done, refl)
+
+pub none_ends : CanEnd no_document
+none_ends = (NoDocument, refl)
+
+pub few_ends : CanEnd too_few
+few_ends = (TooFew, refl)
+
+pub same_ends : CanEnd no_difference
+same_ends = (NoDifference, refl)
+
+pub bad_ends : (number : ℕ) (fault : LogCode) → CanEnd (refused (bad_log number fault))
+bad_ends number fault = some_judged (bad_log number fault) (bad_given number fault)
+
 ends_same : (answer : TextAnswer) (a b : Outcome) → EndsAs answer a → EndsAs answer b
     → IsSameEnd a b
 ends_same (text_is text) a b p q = end_same Done a b refl p q
@@ -250,9 +273,25 @@ module _ (answer_at : Terms → List Heard → Heard → Option TextAnswer)
       let same : answer ≡ other = cc (sym is ∙ at) in
       ends_same other a b (subst (λ (x : TextAnswer). EndsAs x a) same ends) also
 
-  -- **a log has one answer**
-  pub has_one_answer : HasOneOutput run
-  has_one_answer = has_one run (record {
+  some_answer : ((terms : Terms) (before : List Heard) (h : Heard) (answer : TextAnswer)
+      → answer_at terms before h ≡ Some answer → CanEnd answer)
+      → (terms : Terms) (before : List Heard) (h : Heard)
+      → is_some (answer_at terms before h) ≡ true
+      → (outcome : Outcome) × run.ends terms before h outcome
+  some_answer can_end terms before h stops = by_answer (answer_at terms before h) refl stops
+    where
+      by_answer : (o : Option TextAnswer) → answer_at terms before h ≡ o → is_some o ≡ true
+          → (outcome : Outcome) × run.ends terms before h outcome
+      by_answer None is there = absurd (cc there)
+      by_answer (Some answer) is there =
+          let end = can_end terms before h answer is in (end.0, (answer, is, end.1))
+
+  -- **a log has one answer**, where a run can end with each
+  pub has_one_answer : ((terms : Terms) (before : List Heard) (h : Heard) (answer : TextAnswer)
+      → answer_at terms before h ≡ Some answer → CanEnd answer)
+      → ((terms : Terms) (heard : List Heard) (tail : Tail)
+      → CanEnd (answer_behind terms heard tail)) → HasOneOutput run
+  has_one_answer can_end can_finish = has_one run (record {
     says = λ terms rests before h a b p q. p ∙ sym q;
     closes = λ terms heard tail a b p q. p ∙ sym q;
     ends = one_end;
@@ -260,6 +299,8 @@ module _ (answer_at : Terms → List Heard → Heard → Option TextAnswer)
   }) (record {
     says = λ terms rests before h. (said_of (answer_at terms before h), refl);
     closes = λ terms heard tail. (written_of (answer_behind terms heard tail), refl);
+    ends = some_answer can_end;
+    finishes = λ terms heard tail fits. can_finish terms heard tail;
   })
 
   -- no event has an answer at which it does not stop
@@ -385,3 +426,28 @@ module _ (answer_at : Terms → List Heard → Heard → Option TextAnswer)
         };
       }
       text_written (Err fault) p = text_part fault p
+
+-- ---- `text --all`
+
+held_ends : (reached : Bool) (o : Option Version) (answer : TextAnswer)
+    → answer_by None reached (held_answer o) ≡ Some answer → CanEnd answer
+held_ends false o answer is = absurd (cc is)
+held_ends true None answer is = subst CanEnd (same_Some no_document answer is) none_ends
+held_ends true (Some v) answer is = subst CanEnd (same_Some (text_is v.text) answer is)
+    (text_ends v.text)
+
+-- each of its answers is one that a run can end with
+pub kept_ends : (n : ℕ) (uri : List ℕ) (terms : Terms) (before : List Heard) (h : Heard)
+    (answer : TextAnswer)
+    → text_at (record { number = n; uri = uri; skips = true }) terms before h ≡ Some answer
+    → CanEnd answer
+kept_ends n uri terms before h =
+    held_ends (is_reached n before h) (held terms uri (calls (kept_before terms (before ++ h ∷ []))))
+
+pub behind_ends : (terms : Terms) (heard : List Heard) (tail : Tail)
+    → CanEnd (text_behind terms heard tail)
+behind_ends terms heard tail = by_fault tail.fault
+  where
+    by_fault : (fault : Option (ℕ × LogCode)) → CanEnd (end_answer (bad_log_of fault))
+    by_fault None = few_ends
+    by_fault (Some flaw) = bad_ends flaw.0 flaw.1

@@ -10,10 +10,11 @@ use Rattle.lsp_frame.specs.declared.format.Format.{Format}
 use Rattle.lsp_log.specs.Log.{Record}
 use Rattle.lsp_replay.specs.Run.{AllPassed, IsPassed, IsTold, PartPassed, Run, Tail}
 use Rattle.lsp_verdict.specs.Complete.{IsVerdictBy}
-use Rattle.lsp_verdict.specs.Given.{verdict_view}
-use Rattle.lsp_verdict.specs.Heard.{Heard}
+use Rattle.lsp_verdict.specs.Given.{summary_view, verdict_view}
+use Rattle.lsp_verdict.specs.Heard.{Heard, heard_events}
 use Rattle.lsp_verdict.specs.Outcome.{log_terms}
 use Rattle.lsp_verdict.specs.Runs.{OfRead}
+use Rattle.lsp_verdict.specs.Verdict as verdicts
 use Rattle.lsp_verdict.specs.declared.completeness.Completeness.{Completeness}
 use Rattle.lsp_verdict.specs.declared.outcome.Outcome.{Outcome}
 use Rattle.lsp_verdict.specs.declared.outcome.Outcome.TheVariants.{Judged}
@@ -59,10 +60,23 @@ EndAlike None ended = Unit {0}
 EndAlike (Some a) None = Unit {0}
 EndAlike (Some a) (Some b) = IsSameEnd a b
 
--- **Each log has exactly one output of this run**, which ends in one way; and that is what a pass
--- writes and answers.
+-- the program can hold this summary: its lists are short enough for memory, and its texts are texts
+abbrev pub CanHold : verdicts.Summary → Type 0
+CanHold s = (held : Summary) × (summary_view held ≡ s)
+
+-- it can hold that of this log
+abbrev pub FitsSummary : Bounds → List ℕ → Type 0
+FitsSummary limits log =
+    (format : Option Format) (records : List Record) (heard : List Heard) (tail : Tail)
+    → IsTold limits log format records heard tail
+    → CanHold (verdicts.summary (log_terms limits format) (heard_events heard))
+
+-- **Each log has exactly one output of this run**, which ends in one way, and does so where the
+-- summary of the log fits; and that is what a pass writes and answers.
 pub record HasOneOutput (run : Run) : Type 0 where
   pub some : (limits : Bounds) (log : List ℕ) → (out : List ℕ) × IsAllSaid run limits log out None
+  pub ends : (limits : Bounds) (log out : List ℕ) → IsAllSaid run limits log out None
+      → FitsSummary limits log → (outcome : Outcome) × IsAllSaid run limits log out (Some outcome)
   pub one : (limits : Bounds) → IsInRange limits → (log out other : List ℕ)
       (ended finished : Option Outcome) → IsAllSaid run limits log out ended
       → IsAllSaid run limits log other finished → (out ≡ other) × EndAlike ended finished

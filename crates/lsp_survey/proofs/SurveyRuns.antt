@@ -9,7 +9,8 @@ use Rattle.lsp_frame.specs.Bounds.{Bounds, IsInRange}
 use Rattle.lsp_frame.specs.declared.format.Format.{Format}
 use Rattle.lsp_log.specs.Log.{Record}
 use Rattle.lsp_replay.specs.Run.{EndsAfter, IsJudged, IsPassed, IsTold, Run, StopsIn, Tail}
-use Rattle.lsp_replay.specs.RunLaws.{AnswersBy, AnswersVerdict, HasOneOutput, SaysOn}
+use Rattle.lsp_replay.specs.RunLaws.{AnswersBy, AnswersVerdict, CanHold, HasOneOutput, SaysOn}
+use Rattle.lsp_replay.proofs.GivenVerdicts.{AllGiven, all_given, ends_given, some_judged}
 use Rattle.lsp_replay.proofs.Outputs.{has_one, judged_same}
 use Rattle.lsp_replay.proofs.RunLaws.{answers_verdict}
 use Rattle.lsp_survey.specs.Reported.{closing, is_every, lines_of}
@@ -22,7 +23,7 @@ use Rattle.lsp_survey.proofs.SurveySteps.{survey_told}
 use Rattle.lsp_verdict.specs.Complete.{IsVerdictBy}
 use Rattle.lsp_verdict.specs.Heard.{Heard, heard_events, notes_of}
 use Rattle.lsp_verdict.specs.LookBack.{each_from}
-use Rattle.lsp_verdict.specs.Offences.{Offence, offence_at, offences}
+use Rattle.lsp_verdict.specs.Offences.{Offence, kept_of, offence_at, offences}
 use Rattle.lsp_verdict.specs.Outcome.{ending, log_terms}
 use Rattle.lsp_verdict.specs.Survey.{all_report, by_itself, found_in}
 use Rattle.lsp_verdict.specs.Verdict.{Verdict, Summary, bad_log_of, summary}
@@ -83,6 +84,23 @@ all_answers completeness run goes ends = answers_verdict completeness run judged
                   p.told),
             )
 
+-- all that is listed of the end can be held
+pub listed_given : (completeness : Completeness) (terms : Terms) (heard : List Heard) (tail : Tail)
+    → AllGiven (ends_of completeness terms heard tail)
+listed_given completeness terms heard tail =
+    ends_given completeness (heard_events heard) (kept_of terms (heard_events heard)) tail.fault _ _
+
+-- and the verdict answered, where the summary fits
+pub some_listed : (completeness : Completeness) (terms : Terms) (heard : List Heard) (tail : Tail)
+    → CanHold (summary terms (heard_events heard))
+    → (outcome : Outcome) × IsJudged (all_verdict terms heard tail.fault
+    (ends_of completeness terms heard tail)) outcome
+some_listed completeness terms heard tail fits =
+    let ends = ends_of completeness terms heard tail in
+    some_judged (all_verdict terms heard tail.fault ends)
+    (all_given terms (notes_of heard) ends tail.fault (summary terms (heard_events heard))
+    (listed_given completeness terms heard tail) fits)
+
 module _ (options : Options) where
   pub survey_answers : AnswersVerdict options.completeness (survey_run options)
   survey_answers = all_answers options.completeness (survey_run options) (λ terms before h. refl)
@@ -102,6 +120,8 @@ module _ (options : Options) where
       end_said options terms heard tail.fault (ends_of options.completeness terms heard tail),
       refl,
     );
+    ends = λ terms before h stops. absurd (cc stops);
+    finishes = some_listed options.completeness;
   })
 
 -- ---- the report

@@ -1,7 +1,8 @@
 -- What of a change does not fit the text that it is made in: a position past the end, and a range's
 -- length that is not that of the text in the range. No rule refuses either.
-use Rattle.std.specs.Prelude.{ℕ, ℤ, pos, nat_lt, List, [], ◌∷◌, ◌++◌, if◌then◌else◌, length}
-use Rattle.std.specs.Prelude.{slice_range, slice_get, Option, Some, None, Result, Ok, Err}
+use Rattle.std.specs.Prelude.{ℕ, ℤ, pos, int_lt, nat_lt, Bool, ◌||◌, List, [], ◌∷◌, ◌++◌, length}
+use Rattle.std.specs.Prelude.{if◌then◌else◌, slice_range, slice_get, Option, Some, None, Result}
+use Rattle.std.specs.Prelude.{Ok, Err}
 use Rattle.std.specs.Option.{option_or, option_and_then}
 use Rattle.std.specs.Ordering.{int_eq}
 use Rattle.lsp_types.specs.declared.position.Encoding.{Encoding}
@@ -13,6 +14,8 @@ use Rattle.lsp_text.specs.Places.{units, place_of}
 use Rattle.lsp_text.specs.Edits.{Edit, applied}
 use Rattle.lsp_text.specs.declared.findings.Extent.{Extent}
 use Rattle.lsp_text.specs.declared.findings.Extent.TheVariants.{Lines, Units}
+use Rattle.lsp_text.specs.declared.findings.Fit.{Fit}
+use Rattle.lsp_text.specs.declared.findings.Fit.TheVariants.{Within, Past, Nowhere}
 use Rattle.lsp_text.specs.declared.findings.PastEnd.{PastEnd}
 use Rattle.lsp_text.specs.declared.findings.OtherLength.{OtherLength}
 use Rattle.lsp_text.specs.declared.findings.Findings.{Findings}
@@ -34,6 +37,19 @@ extent_in enc ls p = extent_at enc (length ls) p.column (slice_get ls p.line)
 -- how far a text goes, where a position lies past its end
 abbrev pub text_extent : Encoding → List ℕ → Position → Option Extent
 text_extent enc t p = extent_in enc (lines_of t) p
+
+-- how a position fits that denotes a place
+abbrev pub fit_by : Option Extent → Fit
+fit_by None = Within
+fit_by (Some e) = Past e
+
+abbrev pub fit_at : Option ℕ → Option Extent → Fit
+fit_at None e = Nowhere
+fit_at (Some k) e = fit_by e
+
+-- **how a position fits a text**
+abbrev pub fit_in : Encoding → List ℕ → Position → Fit
+fit_in enc t p = fit_at (place_of enc t p) (text_extent enc t p)
 
 -- that position
 abbrev pub past_by : Position → Option Extent → Option PastEnd
@@ -62,10 +78,14 @@ abbrev pub lengths_of : List ℕ → ℤ → OtherLength
 lengths_of t sent =
     record { sent = sent; utf8 = units Utf8 t; utf16 = units Utf16 t; utf32 = units Utf32 t }
 
--- the same where this is not how long the text is
+-- it is no length (LSP 3.17, `uinteger`), or that of so many units
+abbrev pub is_no_other : ℤ → ℕ → Bool
+is_no_other sent units = int_lt sent (pos 0) || int_eq sent (pos units)
+
+-- the same where this is another length than that of the text
 abbrev pub other_length : Encoding → List ℕ → ℤ → Option OtherLength
 other_length enc t sent =
-    if int_eq sent (pos (units enc t)) then None else Some (lengths_of t sent)
+    if is_no_other sent (units enc t) then None else Some (lengths_of t sent)
 
 abbrev pub length_of : Encoding → List ℕ → Option ℤ → Option OtherLength
 length_of enc t sent = option_and_then (other_length enc t) sent

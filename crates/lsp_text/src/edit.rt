@@ -76,7 +76,7 @@ pub(crate) fn read_at<'a>(lines: &'a Lines, position: Position, steps: &mut Step
 #[derive(Clone, Copy)]
 pub(crate) struct Spotted {
     pub(crate) offset: usize,
-    extent: Option<Extent>,
+    pub(crate) extent: Option<Extent>,
 }
 
 /// Where a position lies that falls in a lent line, or `None` where it lies inside a character.

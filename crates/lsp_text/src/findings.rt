@@ -1,9 +1,9 @@
 //! What of a change does not fit the text that it is made in: no rule refuses it.
 
-ghost use Rattle.std.specs.Prelude.{◌≡◌, ℕ, List, pos};
+ghost use Rattle.std.specs.Prelude.{◌≡◌, ℕ, List};
 ghost use Rattle.std.specs.Option.{option_or};
-ghost use Rattle.std.specs.Ordering.{int_eq};
 ghost use Rattle.std.specs.Str.{chars};
+ghost use Rattle.lsp_text.specs.Findings as spec;
 ghost use Rattle.lsp_text.specs.Findings.{extent_of, text_extent, past_by, past_of, length_of};
 ghost use Rattle.lsp_text.specs.Findings.{lengths_of};
 ghost use Rattle.lsp_text.specs.Findings.{nothing, noted};
@@ -24,6 +24,17 @@ pub enum Extent {
     Units(u64),
 }
 
+/// How a position fits a text.
+#[derive(Clone, Copy, Debug, PartialEq, Eq)]
+pub enum Fit {
+    /// It is a place of the text.
+    Within,
+    /// It lies past the end: it denotes the end of its line, or of the text.
+    Past(Extent),
+    /// It lies inside a character, and denotes no place.
+    Nowhere,
+}
+
 /// A position past the end of a text.
 #[derive(Clone, Copy, Debug, PartialEq, Eq)]
 pub struct PastEnd {
@@ -31,8 +42,8 @@ pub struct PastEnd {
     pub extent: Extent,
 }
 
-/// A range's length that is not that of the text in the range, and how long that is in each
-/// encoding.
+/// A range's length, which is not negative and not that of the text in the range, and how long that
+/// is in each encoding.
 #[derive(Clone, Copy, Debug, PartialEq, Eq)]
 pub struct OtherLength {
     pub sent: i32,
@@ -80,6 +91,16 @@ impl Findings {
     }
 }
 
+/// How a position fits that denotes a place of a text, which goes so far where it lies past the end.
+pub(crate) fn fit_by(extent: Option<Extent>) -> Fit
+    ensures { result ≡ spec.fit_by extent }
+{
+    match extent {
+        Some(extent) => Fit::Past(extent),
+        None => Fit::Within,
+    }
+}
+
 /// How far a line of this many units goes, where a column is greater.
 #[inline(always)]
 pub(crate) fn extent_past(width: u64, column: u32) -> Option<Extent>
@@ -112,12 +133,13 @@ pub(crate) fn past_end_of(
     None
 }
 
-/// Whether this is the number of a text's units.
+/// Whether this is the number of a text's units, or no length at all: a negative one is no
+/// `uinteger`.
 #[inline(always)]
-pub(crate) fn is_length(sent: i32, width: u64) -> bool
-    ensures { result ≡ int_eq sent (pos width) }
+fn is_no_other(sent: i32, width: u64) -> bool
+    ensures { result ≡ spec.is_no_other sent width }
 {
-    sent >= 0 && u64::from(sent.cast_unsigned()) == width
+    sent < 0 || u64::from(sent.cast_unsigned()) == width
 }
 
 /// What the replacement of a span finds in a text, of which this is the text in the span.
@@ -154,7 +176,7 @@ fn length_other_than(text: &str, encoding: Encoding, sent: Option<i32>) -> Optio
     ensures { result ≡ length_of encoding (chars text.now) sent }
 {
     let sent = sent?;
-    if is_length(sent, width_of(text, encoding)) {
+    if is_no_other(sent, width_of(text, encoding)) {
         return None;
     }
     Some(OtherLength {
@@ -180,7 +202,7 @@ pub(crate) fn length_other_than_removed(
         → result ≡ length_of encoding removed sent }
 {
     let sent = sent?;
-    if is_length(sent, removed_units(old, new, inserted, encoding)) {
+    if is_no_other(sent, removed_units(old, new, inserted, encoding)) {
         return None;
     }
     Some(lengths_removed(old, new, inserted, sent))

@@ -38,7 +38,7 @@ pub use columns::offset_in_line;
 pub use counts::{TextCounts, measure};
 pub use cut::FirstLine;
 pub use difference::{Difference, first_difference};
-pub use findings::{Extent, Findings, OtherLength, PastEnd};
+pub use findings::{Extent, Findings, Fit, OtherLength, PastEnd};
 pub use laws::{
     characters_denote, exact_texts_are_equal, feeds_end_lines, line_ends_are_whole,
     lines_are_the_cut, lines_of_joined, one_difference, places_are_denoted, places_have_positions,

@@ -41,10 +41,11 @@ ghost use Rattle.std.specs.Prelude.{◌≡◌, ◌*◌, length, IfOk, OnOk, OnEr
 ghost use Rattle.std.specs.Str.{chars};
 ghost use Rattle.lsp_text.specs.Edits.{replaced, limited, IsFaultOf};
 ghost use Rattle.lsp_text.specs.Steps.{RisesWithin, touched};
+ghost use Rattle.lsp_text.specs.Findings as spec;
 ghost use Rattle.lsp_text.specs.Findings.{noted, found_in};
 
 use crate::edit::{edit, find_in, read_at};
-use crate::findings::{Findings, length_other_than_removed};
+use crate::findings::{Findings, Fit, fit_by, length_other_than_removed};
 use crate::store::{Place, TextStore};
 use lines::{Lines, Steps};
 use lsp_types::{Encoding, Fault, Memory, Position, Span, rules};
@@ -75,6 +76,18 @@ impl Lined {
         ensures { result ≡ self.now.steps }
     {
         self.steps.count()
+    }
+
+    /// How a position fits the text (LSP 3.17, "Position"): whether it is a place of it, lies past
+    /// the end of its line or of the text, or lies inside a character.
+    pub fn fit_of(&self, encoding: Encoding, position: Position) -> Fit
+        ensures { result ≡ spec.fit_in encoding self.now.content position }
+    {
+        let line = read_at(&self.lines, position, &mut Steps::none());
+        match find_in(&self.lines, &line, encoding, position) {
+            None => Fit::Nowhere,
+            Some(spotted) => fit_by(spotted.extent),
+        }
     }
 }
 

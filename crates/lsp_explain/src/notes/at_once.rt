@@ -1,6 +1,6 @@
 //! What edits make of a text, if all their ranges are in it.
-ghost use Rattle.std.specs.Prelude.{◌≡◌, ◌≤◌, IfOk, OnOk, length, not, option_map, string_bytes};
-ghost use Rattle.std.specs.List.{prefix_len};
+ghost use Rattle.std.specs.Prelude.{◌≡◌, IfOk, OnOk, option_map, string_bytes};
+ghost use Rattle.std.specs.Ordering.{is_lt};
 ghost use Rattle.std.specs.Str.{IsUtf8, chars};
 ghost use Rattle.lsp_explain.specs.AtOnce as spec;
 ghost use Rattle.lsp_explain.specs.AtOnce.{splice_view, splices_view};
@@ -11,6 +11,7 @@ use lsp_rpc::Result;
 use lsp_text::{Lined, TextStore, offset_in_line};
 use lsp_types::{Change, Encoding, Memory};
 use std::alloc::Global;
+use std::cmp::Ordering;
 
 /// What an edit replaces in a text, by its places there, and what with.
 #[derive(Clone, Copy)]
@@ -117,14 +118,15 @@ fn splices_of<'a>(
         ≡ option_map spec.in_order
         (spec.splices_of encoding text.now.content (edits_of edits.now))) }
 {
-    let mut done = Vec::with_capacity(alloc, edits.len())?;
+    let mut found = Vec::with_capacity(alloc, edits.len())?;
     for edit in edits {
         let Some(splice) = splice_of(encoding, edit, text)? else {
             return Ok(None);
         };
-        place(&mut done, splice)?;
+        found.push(splice)?;
     }
-    Ok(Some(done))
+    put_in_order(&mut found)?;
+    Ok(Some(found))
 }
 
 fn splice_of<'a>(encoding: Encoding, edit: &'a Change, text: &Lined) -> Result<Option<Splice<'a>>>
@@ -138,24 +140,25 @@ fn splice_of<'a>(encoding: Encoding, edit: &'a Change, text: &Lined) -> Result<O
     Ok(Some(Splice { at, text }))
 }
 
-/// Adds one behind those that it does not come before.
-fn place<'a>(done: &mut Vec<Splice<'a>>, splice: Splice<'a>) -> Result<()>
-    ensures { OnOk result (splices_view done.new.items
-        ≡ spec.placed (splices_view done.old.items) (splice_view splice.entry)) }
+/// Puts them in the order of the text; those between the same places stay as they are.
+fn put_in_order(splices: &mut Vec<Splice<'_>>) -> Result<()>
+    ensures { OnOk result (splices_view splices.new.items
+        ≡ spec.in_order (splices_view splices.old.items)) }
 {
-    let at = count_before(done.as_slice(), splice.at);
-    done.insert(at, splice)?;
+    splices.sort_by(|first, second| order(first.at, second.at))?;
     Ok(())
 }
 
-/// How many of the first ones a stretch does not come before.
-fn count_before(done: &[Splice<'_>], stretch: Stretch) -> usize
-    ensures value { result ≡ prefix_len (λ s. not (spec.is_first stretch s.at)) done.now }
-    ensures bound { result ≤ length done.now }
+fn order(stretch: Stretch, other: Stretch) -> Ordering
+    ensures { is_lt result ≡ spec.is_first stretch other }
 {
-    done.iter()
-        .take_while(|other| !is_first(stretch, other.at))
-        .count()
+    if is_first(stretch, other) {
+        return Ordering::Less;
+    }
+    if is_first(other, stretch) {
+        return Ordering::Greater;
+    }
+    Ordering::Equal
 }
 
 /// Whether a stretch begins before the other one, or at the same place, and ends before it does.

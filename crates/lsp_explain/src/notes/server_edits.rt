@@ -408,7 +408,7 @@ fn words_if_outside(now: Now<'_>, texts: &[Lined], edits: &[Change]) -> Result<O
         (spec.sight (contents texts.now) (edits_of edits.now))) }
 {
     let alloc = now.docs.alloc();
-    match first_outside(alloc, now.encoding, texts, edits)? {
+    match first_outside(now.encoding, texts, edits) {
         Some(position) => Ok(Some(outside_words(alloc, position)?)),
         None => Ok(None),
     }

@@ -10,14 +10,13 @@ ghost use Rattle.lsp_explain.specs.History.{last_that};
 ghost use Rattle.lsp_explain.specs.TextsSince as spec;
 ghost use Rattle.lsp_explain.specs.TextsSince.{contents};
 ghost use Rattle.lsp_text.specs.Changes.{edits_of};
-ghost use Rattle.lsp_text.specs.Findings.{past_by};
 ghost use Rattle.lsp_text.specs.Places as places;
 
 use crate::trail::VersionEvent;
 use lsp_docs::Docs;
 use lsp_replay::EventPlace;
 use lsp_rpc::Result;
-use lsp_text::{Extent, Findings, Lined, PastEnd, Place, TextStore};
+use lsp_text::{Extent, Fit, Lined, Place, TextStore};
 use lsp_types::{Change, Encoding, Fault, Memory, Position, Span};
 use std::alloc::Global;
 
@@ -139,96 +138,59 @@ fn push_text(
 
 /// The first position of edits that is outside in each of these texts: past the end, or inside a
 /// character.
-///
-/// # Errors
-/// `Memory` where memory was refused.
 pub(crate) fn first_outside(
-    alloc: Global,
     encoding: Encoding,
     texts: &[Lined],
     edits: &[Change],
-) -> Result<Option<Position>>
-    ensures { IfOk result (λ found. found
-        ≡ spec.first_outside encoding (contents texts.now) (edits_of edits.now)) }
+) -> Option<Position>
+    ensures { result ≡ spec.first_outside encoding (contents texts.now) (edits_of edits.now) }
 {
     for edit in edits {
-        if let Some(position) = outside_of(alloc, encoding, texts, edit.span)? {
-            return Ok(Some(position));
+        if let Some(position) = outside_of(encoding, texts, edit.span) {
+            return Some(position);
         }
     }
-    Ok(None)
+    None
 }
 
 /// The first position of a range that is.
-fn outside_of(
-    alloc: Global,
-    encoding: Encoding,
-    texts: &[Lined],
-    span: Option<Span>,
-) -> Result<Option<Position>>
-    ensures { IfOk result (λ found. found
-        ≡ find (spec.is_outside_each encoding (contents texts.now)) (spec.ends_of span)) }
+fn outside_of(encoding: Encoding, texts: &[Lined], span: Option<Span>) -> Option<Position>
+    ensures { result
+        ≡ find (spec.is_outside_each encoding (contents texts.now)) (spec.ends_of span) }
 {
-    let Some(Span { first, second }) = span else {
-        return Ok(None);
-    };
-    if is_outside_each(alloc, encoding, texts, first)? {
-        return Ok(Some(first));
+    let Span { first, second } = span?;
+    if is_outside_each(encoding, texts, first) {
+        return Some(first);
     }
-    if is_outside_each(alloc, encoding, texts, second)? {
-        return Ok(Some(second));
+    if is_outside_each(encoding, texts, second) {
+        return Some(second);
     }
-    Ok(None)
+    None
 }
 
-fn is_outside_each(
-    alloc: Global,
-    encoding: Encoding,
-    texts: &[Lined],
-    position: Position,
-) -> Result<bool>
-    ensures { IfOk result (λ outside. outside
-        ≡ spec.is_outside_each encoding (contents texts.now) position) }
+fn is_outside_each(encoding: Encoding, texts: &[Lined], position: Position) -> bool
+    ensures { result ≡ spec.is_outside_each encoding (contents texts.now) position }
 {
     for text in texts {
-        if !is_outside(alloc, encoding, position, text)? {
-            return Ok(false);
+        if !is_outside(encoding, position, text) {
+            return false;
         }
     }
-    Ok(true)
+    true
 }
 
-/// Whether a position is outside of a text. An empty replacement in a copy of it tells this.
-fn is_outside(alloc: Global, encoding: Encoding, position: Position, text: &Lined) -> Result<bool>
-    ensures { IfOk result (λ outside. outside
-        ≡ spec.is_outside encoding position text.now.content) }
+/// Whether a position is outside of a text. The start of the line after the last is not.
+fn is_outside(encoding: Encoding, position: Position, text: &Lined) -> bool
+    ensures { result ≡ spec.is_outside encoding position text.now.content }
 {
-    let mut copy = text.copy(alloc)?;
-    let span = Span {
-        first: position,
-        second: position,
-    };
-    let limit = copy.byte_len();
-    let mut found = Findings::none();
-    match copy.replace_noting(encoding, span, None, "", limit, &mut found) {
-        Ok(()) => Ok(is_past(found.past_end)),
-        Err(Fault::Rule(_)) => Ok(true),
-        Err(Fault::Memory) => Err(Memory),
+    match text.fit_of(encoding, position) {
+        Fit::Within => false,
+        Fit::Past(extent) => is_past(position, extent),
+        Fit::Nowhere => true,
     }
 }
 
-/// Whether a position is past the end. The start of the line after the last is not.
-fn is_past(found: Option<PastEnd>) -> bool
-    ensures { (position : Position) (extent : Option Extent) → found ≡ past_by position extent
-        → result ≡ spec.is_past position extent }
-{
-    match found {
-        Some(PastEnd { position, extent }) => is_past_extent(position, extent),
-        None => false,
-    }
-}
-
-fn is_past_extent(position: Position, extent: Extent) -> bool
+fn is_past(position: Position, extent: Extent) -> bool
     ensures { result ≡ spec.is_past position (Some extent) }
 {
     match extent {

@@ -1,11 +1,11 @@
 use Rattle.std.proofs.Common.{◌≡◌, [], drop}
 use Rattle.lsp_text.specs.Changes.{edits_of}
 use Rattle.lsp_explain.specs.AtOnce.{splices_of, splices_view}
-use Rattle.lsp_explain.proofs.AtOnceSteps.{placed_all}
+use Rattle.lsp_explain.proofs.AtOnceSteps.{found_all}
 use Rattle.lsp_explain.proofs.notes.at_once.splices_of.Given as goal
 
 abbrev pub invariant-loop-edit : goal.invariant-loop-edit
 invariant-loop-edit l =
-    placed_all (splices_view l.done.items)
+    found_all (splices_view l.found.items)
     (splices_of l.encoding l.text.content (edits_of (drop l.edit-index l.edits)))
-    ≡ placed_all [] (splices_of l.encoding l.text.content (edits_of l.edits))
+    ≡ found_all [] (splices_of l.encoding l.text.content (edits_of l.edits))
