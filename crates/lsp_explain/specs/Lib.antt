@@ -17,7 +17,6 @@ pub mod RightFrom
 pub mod OtherLines
 pub mod Told
 pub mod Traced
-pub mod AsciiLines
 pub mod Uncompared
 pub mod Trails
 pub mod Compared
