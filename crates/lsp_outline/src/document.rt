@@ -9,13 +9,12 @@ ghost use Rattle.lsp_outline.specs.Named as spec;
 ghost use Rattle.lsp_outline.specs.Versions.{AreNamed, AreOfParams, Names, message_view};
 ghost use Rattle.lsp_outline.specs.Versions.{parts_view, version_view, versioned_in};
 ghost use Rattle.lsp_rpc.specs.Params as shapes;
-ghost use Rattle.lsp_rpc.specs.Shape.{as_integer};
 ghost use Rattle.lsp_types.specs.declared.side.Side.TheVariants.{Editor};
 
 use crate::edits::integer_unless_null_at;
 use crate::members::{Gathered, keep, object_at, skipped, text_into};
 use crate::walk::string_copy;
-use lsp_rpc::Memory;
+use lsp_rpc::{Memory, integer_at, text_at};
 use lsp_types::Side;
 use serde_json::{Error, Value};
 use std::alloc::Global;
@@ -265,26 +264,14 @@ fn uri_in(alloc: Global, value: &Value) -> Result<Option<String>, Memory>
     ensures { IfOk result (λ uri. option_map (λ s. string_bytes s) uri
         ≡ shapes.uri_at (view value.now)) }
 {
-    match uri_at(value) {
+    match text_at(value, "uri") {
         Some(uri) => Ok(Some(String::from_str(alloc, uri)?)),
         None => Ok(None),
     }
 }
 
-fn uri_at(value: &Value) -> Option<&str>
-    ensures { option_map (λ s. s.now) result ≡ shapes.uri_at (view value.now) }
-{
-    value.get("uri")?.as_str()
-}
-
 fn version_in(params: &Value) -> Option<i32>
     ensures { result ≡ shapes.version_at (view params.now) }
 {
-    integer_of(params.get("version")?)
-}
-
-fn integer_of(value: &Value) -> Option<i32>
-    ensures { result ≡ as_integer (view value.now) }
-{
-    i32::try_from(value.as_i64()?).ok()
+    integer_at(params, "version")
 }
