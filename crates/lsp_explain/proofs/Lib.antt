@@ -31,8 +31,6 @@ pub mod Basing
 pub mod BasingShown
 pub mod BasesHeld
 pub mod Fitting
-pub mod MadeVersions
-pub mod AsciiLines
 pub mod ToldFacts
 pub mod Rearranging
 pub mod OtherLineSteps

@@ -12,10 +12,10 @@ use Rattle.lsp_rpc.specs.Reading as rpc
 use Rattle.lsp_rpc.specs.Shape.{as_id, unless_null}
 use Rattle.lsp_types.specs.declared.side.Side.{Side}
 use Rattle.lsp_types.specs.declared.side.Side.TheVariants.{Editor, Server}
-use Rattle.lsp_outline.specs.Named.{document_in, named_in}
-use Rattle.lsp_outline.proofs.Naming.{text_names}
-use Rattle.lsp_outline.proofs.Versioning.{text_versions}
+use Rattle.lsp_outline.proofs.Naming.{text_gives}
+use Rattle.lsp_outline.specs.Named.{document_in, named_in, named_in_value}
 use Rattle.lsp_outline.specs.Versions.{Versioned, versioned, versioned_at, versioned_in}
+use Rattle.lsp_outline.specs.Versions.{versioned_in_value}
 use Rattle.lsp_rpc.specs.Act.{Text}
 use Rattle.lsp_rpc.specs.Params.{uri_at, version_at}
 use Rattle.lsp_session.specs.Sent.{Sent}
@@ -103,7 +103,7 @@ names_so side bytes m reads is =
     (option_and_then as_id parts.id) (option_and_then unless_null parts.params)
     (rpc.reply_in parts.result parts.error) m reads.2.made (calls_by side m is))
     ∙ null_names side parts.params
-    ∙ text_names side bytes reads.0 reads.1.0 reads.1.1
+    ∙ text_gives (named_in_value side) bytes reads.0 reads.1.0 reads.1.1
 
 -- of one that is known without its params and its result
 pub named_so : (side : Side) (bytes : List ℕ) (m said : Message) → rpc.Reads bytes m
@@ -161,7 +161,7 @@ module _ (side : Side) (m said : Message) (same : outline m ≡ outline said) wh
       (option_and_then as_id parts.id) (option_and_then unless_null parts.params)
       (rpc.reply_in parts.result parts.error) m reads.2.made (diagnosis_calls side m own))
       ∙ null_versions parts.params
-      ∙ text_versions bytes reads.0 reads.1.0 reads.1.1)
+      ∙ text_gives versioned_in_value bytes reads.0 reads.1.0 reads.1.1)
 
   pub undiagnosed : is_diagnosis side said ≡ false → None ≡ diagnosed_in side m
   undiagnosed is = sym (diagnosed_if side m false (diagnosis_alike side m said same ∙ is))

@@ -1,5 +1,5 @@
 -- The changes of a document since it was opened, with one call more.
-use Rattle.std.specs.Prelude.{ℕ, ℤ, int_lt, if◌then◌else◌, Result, Ok}
+use Rattle.std.specs.Prelude.{ℕ, ℤ, int_lt, if◌then◌else◌}
 use Rattle.std.specs.List.{cons_option, filter_map}
 use Rattle.std.specs.Str.{bytes_eq}
 use Rattle.std.proofs.Common.{◌≡◌, Bool, true, false, List, [], ◌∷◌, ◌++◌, Option, Some, None, refl}
@@ -13,7 +13,7 @@ use Rattle.lsp_docs.proofs.Words.{uri_is}
 use Rattle.lsp_types.specs.declared.change.SyncKind.{SyncKind}
 use Rattle.lsp_types.specs.declared.position.Encoding.{Encoding}
 use Rattle.lsp_text.specs.Edits.{Edit, applied}
-use Rattle.lsp_docs.specs.Calls.{Bytes, Call, Text, changes, closes, opens, saves, shows, uri_of}
+use Rattle.lsp_docs.specs.Calls.{Bytes, Call, changes, closes, opens, saves, shows, uri_of}
 use Rattle.lsp_docs.specs.Documents.{Terms, Version, held, text_or, versioned}
 use Rattle.lsp_docs.specs.Snapshots.{past}
 use Rattle.lsp_docs.specs.Rules.{AreAccepted, AreAcceptedFrom, call_rule}
@@ -157,8 +157,6 @@ pub record IsChanged (terms : Terms) (uri : Bytes) (before : List Call) (c : Cal
   pub rises : int_lt old.number n ≡ true
   pub past_more : past terms uri (before ++ c ∷ []) ≡ past terms uri before ++ old ∷ []
   pub sent_more : sent_since uri (before ++ c ∷ []) ≡ sent_since uri before ++ more ∷ []
-  pub encoding : Encoding
-  pub made : applied terms.limit encoding old.text more.edits ≡ Ok new.text
 
 pub changed_so : (terms : Terms) (uri : Bytes) (before : List Call) (enc : Encoding)
     (k : SyncKind) (u : Bytes) (n : ℤ) (cs : List Edit) → bytes_eq uri u ≡ true
@@ -178,10 +176,6 @@ changed_so terms uri before enc k u n cs p kept =
       rises = parts.rises;
       past_more = past-changed terms uri before c parts.old p was;
       sent_more = sent_with uri before c (Some (sent_edits n cs)) refl (rw p refl);
-      encoding = enc;
-      made = parts.made
-          ∙ sym (ap (λ (r : Result Text ℕ). let u : Result Text ℕ = Ok (text_or parts.old.text r) in u)
-          parts.made);
     }
 
 -- ---- they rise up to the held version

@@ -18,7 +18,6 @@ pub mod OtherLines
 pub mod Told
 pub mod OlderEncoding
 pub mod Traced
-pub mod AsciiLines
 pub mod Uncompared
 pub mod Trails
 pub mod Compared

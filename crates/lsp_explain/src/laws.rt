@@ -1,6 +1,5 @@
 //! Laws of what is explained.
 ghost use Rattle.lsp_explain.specs.AllNotes.{NotesAreBeside};
-ghost use Rattle.lsp_explain.specs.AsciiLines.{NoFitsInAscii};
 ghost use Rattle.lsp_explain.specs.ExplainLaws.{AllAnswersVerdict, BeginsWithReport};
 ghost use Rattle.lsp_explain.specs.ExplainLaws.{CausesAreExplained, ComparedAtItsEnd};
 ghost use Rattle.lsp_explain.specs.ExplainLaws.{ComparedTextIsOfSurvey};
@@ -83,12 +82,6 @@ pub fn explanation_at_its_end()
 /// Nor of one of the two texts.
 pub fn compared_at_its_end()
     ensures { ComparedAtItsEnd }
-{}
-
-/// Where each line that a position of a suspect falls in is ASCII, no other encoding makes the text
-/// that the editor had.
-pub fn no_fits_in_ascii()
-    ensures { NoFitsInAscii }
 {}
 
 /// Each method of LSP 3.17 has a row of the table by which notes are made, with its kind and side.

@@ -36,8 +36,8 @@ pub use laws::{
     all_explained_answers_verdict, all_explained_are_causes, compared_at_its_end,
     compared_text_is_of_survey, explanation_answers_verdict, explanation_at_its_end,
     explanation_begins_with_report, explanation_of_yes_is_report, first_explained_is_verdict,
-    no_fits_in_ascii, noted_explanation_answers_verdict, notes_are_beside, one_compared_text,
-    one_explanation, one_explanation_of_all, one_noted_explanation, rows_are_standard_methods,
+    noted_explanation_answers_verdict, notes_are_beside, one_compared_text, one_explanation,
+    one_explanation_of_all, one_noted_explanation, rows_are_standard_methods,
     standard_methods_have_rows,
 };
 pub use run::run_explain;

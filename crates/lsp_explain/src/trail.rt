@@ -52,7 +52,6 @@ pub(crate) use mark::VersionEvent;
 pub(crate) use marks::Marks;
 pub(crate) use misuses::{Misuse, Misused};
 pub(crate) use openings::{Closing, DocumentEvent, Openings};
-pub(crate) use renames::text_at;
 use std::alloc::Global;
 pub(crate) use uncompared::{ShownText, Uncompared};
 

@@ -3,13 +3,12 @@
 ghost use Rattle.std.specs.Prelude.{◌≡◌, ◌++◌, map, option_map};
 ghost use Rattle.serde_json.specs.View.{items_view, view};
 ghost use Rattle.lsp_rpc.specs.Params.{given};
-ghost use Rattle.lsp_rpc.specs.Shape.{as_integer};
 ghost use Rattle.lsp_rpc.specs.View.{message_view};
 ghost use Rattle.lsp_facts.specs.Members as spec;
 ghost use Rattle.lsp_facts.specs.Members.{Finds, part_view, row_view};
 
 use crate::shapes::{Kind, Need, PARAMS, Part, RESULT, Row};
-use lsp_rpc::{Message, Result};
+use lsp_rpc::{Message, Result, integer_of};
 use serde_json::Value;
 use std::alloc::Global;
 
@@ -183,12 +182,6 @@ impl Kind {
             Kind::Object => value.is_object(),
         }
     }
-}
-
-fn integer_of(value: &Value) -> Option<i32>
-    ensures { result ≡ as_integer (view value.now) }
-{
-    i32::try_from(value.as_i64()?).ok()
 }
 
 fn is_sync_kind(value: &Value) -> bool

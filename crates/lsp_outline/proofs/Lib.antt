@@ -15,4 +15,3 @@ pub mod Speaking
 pub mod Negatives
 pub mod LongBlocks
 pub mod Naming
-pub mod Versioning

@@ -1,18 +1,30 @@
-//! Which document a content names in its params, without building what the others of them hold.
-ghost use Rattle.std.specs.Prelude.{◌≡◌, IfSome, IfOk, None, codes, option_map, string_bytes};
+//! Which documents a content names in its params, and which version of one, without building what
+//! else they hold.
+ghost use Rattle.std.specs.Prelude.{◌≡◌, IfSome, IfOk, None, option_and_then, option_map};
+ghost use Rattle.std.specs.Prelude.{string_bytes};
 ghost use Rattle.serde_json.specs.Data.{object};
 ghost use Rattle.serde_json.specs.Errors.{IsMemory};
 ghost use Rattle.serde_json.specs.View.{view};
 ghost use Rattle.lsp_outline.specs.Named as spec;
-ghost use Rattle.lsp_rpc.specs.Params as params;
-ghost use Rattle.lsp_types.specs.declared.side.Side.TheVariants.{Editor, Server};
+ghost use Rattle.lsp_outline.specs.Versions.{AreNamed, AreOfParams, Names, message_view};
+ghost use Rattle.lsp_outline.specs.Versions.{parts_view, version_view, versioned_in};
+ghost use Rattle.lsp_rpc.specs.Params as shapes;
+ghost use Rattle.lsp_types.specs.declared.side.Side.TheVariants.{Editor};
 
+use crate::edits::integer_unless_null_at;
 use crate::members::{Gathered, keep, object_at, skipped, text_into};
 use crate::walk::string_copy;
-use lsp_rpc::Memory;
+use lsp_rpc::{Memory, integer_at, text_at};
 use lsp_types::Side;
 use serde_json::{Error, Value};
 use std::alloc::Global;
+
+/// A document, and the version of it, where one is named.
+#[derive(Drop)]
+pub struct DocumentVersion {
+    pub uri: String,
+    pub version: Option<i32>,
+}
 
 /// The member of a text document's identifier.
 #[derive(Drop)]
@@ -21,7 +33,7 @@ struct IdentifierParts {
 }
 
 impl Gathered for IdentifierParts {
-    ghost gathers = { λ ms parts. params.uri_at (object ms) ≡ spec.uri_view parts };
+    ghost gathers = { λ ms parts. shapes.uri_at (object ms) ≡ spec.uri_view parts };
 
     fn none() -> IdentifierParts {
         IdentifierParts { uri: None }
@@ -43,22 +55,23 @@ impl Gathered for IdentifierParts {
     }
 }
 
-/// The members of params that name their document, one for each side.
+/// The members of params that name a document: one of the editor's messages, and one of the
+/// server's, with its version. A version that is null is none.
 #[derive(Drop)]
 struct NamingParts {
     document: Option<IdentifierParts>,
     uri: Option<String>,
+    version: Option<i32>,
 }
 
 impl Gathered for NamingParts {
-    ghost gathers = { λ ms parts.
-        (spec.document_in Editor (object ms) ≡ spec.naming_view Editor parts)
-        × (spec.document_in Server (object ms) ≡ spec.naming_view Server parts) };
+    ghost gathers = { λ ms parts. AreOfParams (object ms) parts };
 
     fn none() -> NamingParts {
         NamingParts {
             document: None,
             uri: None,
+            version: None,
         }
     }
 
@@ -74,23 +87,20 @@ impl Gathered for NamingParts {
         match name {
             "textDocument" => keep!(self.document = Some(object_at(alloc, text, from, depth))),
             "uri" => keep!(self.uri = Some(string_copy(alloc, text, from))),
+            "version" => keep!(self.version = integer_unless_null_at(text, from)),
             _ => skipped(text, from, depth),
         }
     }
 }
 
-/// The member of a message that names its document.
+/// The member of a message that names documents.
 #[derive(Drop)]
 struct ContentParts {
     params: Option<NamingParts>,
 }
 
 impl Gathered for ContentParts {
-    ghost gathers = { λ ms parts.
-        (params.required (codes "params") (spec.document_in Editor) (object ms)
-        ≡ spec.content_view Editor parts)
-        × (params.required (codes "params") (spec.document_in Server) (object ms)
-        ≡ spec.content_view Server parts) };
+    ghost gathers = { λ ms parts. AreNamed (object ms) parts };
 
     fn none() -> ContentParts {
         ContentParts { params: None }
@@ -123,21 +133,19 @@ pub fn document_of(alloc: Global, side: Side, content: &[u8]) -> Result<Option<S
     ensures { IfOk result (λ uri. option_map (λ s. string_bytes s) uri
         ≡ spec.named_in side content.now) }
 {
-    match uri_in(alloc, side, content) {
-        Some(uri) => Ok(uri),
-        None => uri_whole(alloc, side, content),
-    }
+    Ok(uri_of_content(side, parts_of(alloc, content)?))
 }
 
-/// The same of a content that has the common form.
-fn uri_in(alloc: Global, side: Side, content: &[u8]) -> Option<Option<String>>
-    ensures { IfSome result (λ uri. option_map (λ s. string_bytes s) uri
-        ≡ spec.named_in side content.now) }
+/// The document that a content names in its params, and the version of it: their string `uri`, and
+/// their integer `version` if they have one (LSP 3.17, PublishDiagnosticsParams). `None` where
+/// there is no such string. Whether the content is such a message is not looked at.
+///
+/// # Errors
+/// `Memory` where memory was refused.
+pub fn version_of(alloc: Global, content: &[u8]) -> Result<Option<DocumentVersion>, Memory>
+    ensures { IfOk result (λ found. option_map version_view found ≡ versioned_in content.now) }
 {
-    let text = simdutf8::basic::from_utf8(content).ok()?;
-    let mut parts = ContentParts::none();
-    text_into(alloc, text, &mut parts)?;
-    Some(uri_of_content(side, parts))
+    Ok(version_of_content(parts_of(alloc, content)?))
 }
 
 fn uri_of_content(side: Side, parts: ContentParts) -> Option<String>
@@ -155,52 +163,115 @@ fn uri_of_params(side: Side, params: NamingParts) -> Option<String>
     }
 }
 
+fn version_of_content(parts: ContentParts) -> Option<DocumentVersion>
+    ensures { option_map version_view result ≡ message_view parts }
+{
+    version_of_params(parts.params?)
+}
+
+fn version_of_params(params: NamingParts) -> Option<DocumentVersion>
+    ensures { option_map version_view result ≡ parts_view params }
+{
+    Some(DocumentVersion {
+        uri: params.uri?,
+        version: params.version,
+    })
+}
+
+/// What a content has for both.
+fn parts_of(alloc: Global, content: &[u8]) -> Result<ContentParts, Memory>
+    ensures { IfOk result (Names content.now) }
+{
+    match parts_in(alloc, content) {
+        Some(parts) => Ok(parts),
+        None => parts_whole(alloc, content),
+    }
+}
+
+/// The same of a content that has the common form.
+fn parts_in(alloc: Global, content: &[u8]) -> Option<ContentParts>
+    ensures { IfSome result (Names content.now) }
+{
+    let text = simdutf8::basic::from_utf8(content).ok()?;
+    let mut parts = ContentParts::none();
+    text_into(alloc, text, &mut parts)?;
+    Some(parts)
+}
+
 // ---- of whatever form
 
 #[cold]
 #[inline(never)]
-fn uri_whole(alloc: Global, side: Side, content: &[u8]) -> Result<Option<String>, Memory>
-    ensures { IfOk result (λ uri. option_map (λ s. string_bytes s) uri
-        ≡ spec.named_in side content.now) }
+fn parts_whole(alloc: Global, content: &[u8]) -> Result<ContentParts, Memory>
+    ensures { IfOk result (Names content.now) }
 {
     match Value::from_slice(alloc, content) {
-        Ok(value) => uri_copy(alloc, side, &value),
+        Ok(value) => parts_in_value(alloc, &value),
         Err(error) => unread(&error),
     }
 }
 
-/// No document, where a content is not a JSON text, or that memory was refused.
-fn unread(error: &Error) -> Result<Option<String>, Memory>
-    ensures { IfOk result (λ uri. (¬ IsMemory error.now) × (uri ≡ None)) }
+/// Nothing, where a content is not a JSON text, or that memory was refused.
+fn unread(error: &Error) -> Result<ContentParts, Memory>
+    ensures { IfOk result (λ parts. (¬ IsMemory error.now) × (parts.params ≡ None)) }
 {
     if error.is_memory() {
         Err(Memory)
     } else {
-        Ok(None)
+        Ok(ContentParts { params: None })
     }
 }
 
-fn uri_copy(alloc: Global, side: Side, value: &Value) -> Result<Option<String>, Memory>
-    ensures { IfOk result (λ uri. option_map (λ s. string_bytes s) uri
-        ≡ spec.named_in_value side (view value.now)) }
+fn parts_in_value(alloc: Global, value: &Value) -> Result<ContentParts, Memory>
+    ensures { IfOk result (AreNamed (view value.now)) }
 {
-    match uri_of_value(side, value) {
+    let Some(params) = value.get("params") else {
+        return Ok(ContentParts { params: None });
+    };
+    let params = naming_in(alloc, params)?;
+    Ok(ContentParts {
+        params: Some(params),
+    })
+}
+
+fn naming_in(alloc: Global, params: &Value) -> Result<NamingParts, Memory>
+    ensures { IfOk result (AreOfParams (view params.now)) }
+{
+    let document = identifier_in(alloc, params)?;
+    let uri = uri_in(alloc, params)?;
+    let version = version_in(params);
+    Ok(NamingParts {
+        document,
+        uri,
+        version,
+    })
+}
+
+fn identifier_in(alloc: Global, params: &Value) -> Result<Option<IdentifierParts>, Memory>
+    ensures { IfOk result (λ parts. option_and_then spec.uri_view parts
+        ≡ spec.document_in Editor (view params.now)) }
+{
+    match params.get("textDocument") {
+        Some(document) => {
+            let uri = uri_in(alloc, document)?;
+            Ok(Some(IdentifierParts { uri }))
+        }
+        None => Ok(None),
+    }
+}
+
+fn uri_in(alloc: Global, value: &Value) -> Result<Option<String>, Memory>
+    ensures { IfOk result (λ uri. option_map (λ s. string_bytes s) uri
+        ≡ shapes.uri_at (view value.now)) }
+{
+    match text_at(value, "uri") {
         Some(uri) => Ok(Some(String::from_str(alloc, uri)?)),
         None => Ok(None),
     }
 }
 
-fn uri_of_value(side: Side, value: &Value) -> Option<&str>
-    ensures { option_map (λ s. s.now) result ≡ spec.named_in_value side (view value.now) }
+fn version_in(params: &Value) -> Option<i32>
+    ensures { result ≡ shapes.version_at (view params.now) }
 {
-    uri_in_params(side, value.get("params")?)
-}
-
-fn uri_in_params(side: Side, params: &Value) -> Option<&str>
-    ensures { option_map (λ s. s.now) result ≡ spec.document_in side (view params.now) }
-{
-    match side {
-        Side::Editor => params.get("textDocument")?.get("uri")?.as_str(),
-        Side::Server => params.get("uri")?.as_str(),
-    }
+    integer_at(params, "version")
 }

@@ -20,9 +20,7 @@ mod positions;
 mod runs;
 mod texts;
 mod tries;
-mod versions;
 mod walk;
 
-pub use document::document_of;
+pub use document::{DocumentVersion, document_of, version_of};
 pub use outline::{MessageReader, Results};
-pub use versions::{DocumentVersion, version_of};

@@ -8,7 +8,7 @@ ghost use Rattle.lsp_rpc.specs.View.{change_view, changes_view};
 ghost use Rattle.lsp_types.specs.declared.rules.TheConstants as rules;
 
 use crate::params::{PARAMS_FAULT, into_text, items_of, uinteger_of};
-use crate::shape::{given, integer_of};
+use crate::shape::{given, integer_at};
 use lsp_types::{Change, Fault, Position, Span};
 use serde_json::Value;
 use std::alloc::Global;
@@ -21,7 +21,8 @@ fn position_of(value: &Value) -> Option<Position>
     Some(Position { line, column })
 }
 
-fn span_of(value: &Value) -> Option<Span>
+/// The range that the value is (LSP 3.17, Range).
+pub fn span_of(value: &Value) -> Option<Span>
     ensures { result ≡ spec.span_at (view value.now) }
 {
     let first = position_of(value.get("start")?)?;
@@ -43,7 +44,7 @@ fn range_of(value: &Value) -> Option<Option<Span>>
 fn range_length_of(value: &Value) -> Option<i32>
     ensures { result ≡ spec.range_length_at (view value.now) }
 {
-    integer_of(value.get("rangeLength")?)
+    integer_at(value, "rangeLength")
 }
 
 fn change_of(value: Value) -> Option<Change>

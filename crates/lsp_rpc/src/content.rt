@@ -17,7 +17,7 @@ ghost use Rattle.lsp_types.specs.declared.rules.TheConstants as rules;
 use crate::fault::BrokenRule;
 use crate::message::{Answer, Id, Message};
 use crate::parts::{Parts, parts_of};
-use crate::shape::{id_in, integer_of, is_structure, is_text};
+use crate::shape::{id_in, integer_at, is_structure, is_text};
 use lsp_types::{Fault, rules};
 use serde_json::{Error, Value};
 use std::alloc::Global;
@@ -72,7 +72,7 @@ fn code_of(error: &Value) -> Option<i32>
     if !error.get("message")?.is_string() {
         return None;
     }
-    integer_of(error.get("code")?)
+    integer_at(error, "code")
 }
 
 /// What a response answers. Rule 207: there is not exactly one of a result and an error. Rule 208:

@@ -9,7 +9,7 @@ ghost use Rattle.lsp_types.specs.declared.rules.TheConstants as rules;
 use crate::act::Act;
 use crate::changes::changes_of;
 use crate::params::{PARAMS_FAULT, copied_text, into_given, into_member, into_text, text_of};
-use crate::shape::integer_of;
+use crate::shape::integer_at;
 use lsp_types::Fault;
 use serde_json::Value;
 use std::alloc::Global;
@@ -24,7 +24,7 @@ fn uri_of(document: &Value) -> Result<String, Fault>
 fn version_of(document: &Value) -> Option<i32>
     ensures { result ≡ spec.version_at (view document.now) }
 {
-    integer_of(document.get("version")?)
+    integer_at(document, "version")
 }
 
 /// The opening that params of this shape ask for (LSP 3.17, DidOpenTextDocumentParams).

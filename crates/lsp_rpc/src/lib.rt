@@ -3,7 +3,8 @@
 //!
 //! `read` reads the message of a content. `act_of` and `take_act` give what a message means on its
 //! side, `picked_of` what the result of `initialize` picks, and `words_of` the words that name a
-//! message. `Method` says what a call is by its side, its kind and its name.
+//! message. `Method` says what a call is by its side, its kind and its name. `span_of` and the like
+//! read the shapes that several messages have.
 #![tactic(auto)]
 
 mod act;
@@ -23,6 +24,7 @@ mod shape;
 mod words;
 
 pub use act::{Act, Offer, Picked, Spoken};
+pub use changes::span_of;
 pub use content::read;
 pub use fault::BrokenRule;
 pub use ids::{copy_id, same_id};
@@ -33,6 +35,7 @@ pub use lsp_types::{Change, Encoding, Memory, Position, Side, Span, SyncKind};
 pub use message::{Answer, Id, Message};
 pub use methods::{Method, act_of, method_of, notification_method, request_method, take_act};
 pub use results::picked_of;
+pub use shape::{given, integer_at, integer_of, text_at};
 pub use words::{push_id, push_quoted, words_of};
 
 /// Why a content is no message, or means nothing on its side: the lowest of the rules 201 to 209

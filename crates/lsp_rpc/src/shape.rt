@@ -1,5 +1,6 @@
 //! What a value looks like.
 ghost use Rattle.std.specs.Prelude.{◌≡◌, option_map};
+ghost use Rattle.serde_json.specs.Find.{as_str};
 ghost use Rattle.serde_json.specs.View.{view};
 ghost use Rattle.lsp_rpc.specs.Ident.{id_view};
 ghost use Rattle.lsp_rpc.specs.Shape.{as_id, as_integer};
@@ -19,8 +20,8 @@ pub(crate) fn is_text(value: &Value, text: &str) -> bool
     }
 }
 
-/// An integer from -2,147,483,648 to 2,147,483,647 (LSP 3.17, Base Types).
-pub(crate) fn integer_of(value: &Value) -> Option<i32>
+/// The integer that the value is: from -2,147,483,648 to 2,147,483,647 (LSP 3.17, Base Types).
+pub fn integer_of(value: &Value) -> Option<i32>
     ensures { result ≡ as_integer (view value.now) }
 {
     let n = value.as_i64()?;
@@ -29,6 +30,21 @@ pub(crate) fn integer_of(value: &Value) -> Option<i32>
     } else {
         None
     }
+}
+
+/// The integer that the member of this name is, as `integer_of` reads it.
+pub fn integer_at(value: &Value, name: &str) -> Option<i32>
+    ensures { result ≡ params.required name.now as_integer (view value.now) }
+{
+    integer_of(value.get(name)?)
+}
+
+/// The string that the member of this name is.
+pub fn text_at<'a>(value: &'a Value, name: &str) -> Option<&'a str>
+    ensures { option_map (λ text. text.now) result
+        ≡ params.required name.now as_str (view value.now) }
+{
+    value.get(name)?.as_str()
 }
 
 /// The id that the value is, moved out of it.
@@ -48,8 +64,8 @@ pub(crate) fn is_structure(value: &Value) -> bool
     value.is_array() || value.is_object()
 }
 
-/// The member, where it is neither missing nor null.
-pub(crate) fn given<'a>(value: &'a Value, name: &str) -> Option<&'a Value>
+/// The member of this name, where it is neither missing nor null.
+pub fn given<'a>(value: &'a Value, name: &str) -> Option<&'a Value>
     ensures { option_map (λ v. view v.now) result ≡ params.given name.now (view value.now) }
 {
     let member = value.get(name)?;

@@ -5,12 +5,11 @@ ghost use Rattle.serde_json.specs.View.{items_view, view};
 ghost use Rattle.lsp_explain.specs.TextEdits as spec;
 ghost use Rattle.lsp_explain.specs.TextEdits.{document_edits_view};
 ghost use Rattle.lsp_rpc.specs.Params as shapes;
-ghost use Rattle.lsp_rpc.specs.Shape.{as_integer, member};
+ghost use Rattle.lsp_rpc.specs.Shape.{member};
 ghost use Rattle.lsp_text.specs.Changes.{edit_of, edits_of};
 
-use crate::trail::text_at;
-use lsp_rpc::Result;
-use lsp_types::{Change, Position, Span};
+use lsp_rpc::{Result, given, integer_at, span_of, text_at};
+use lsp_types::{Change, Span};
 use serde_json::Value;
 use std::alloc::Global;
 
@@ -202,52 +201,6 @@ fn span_of_edit(item: &Value) -> Option<Span>
 }
 
 // ---- shapes
-
-fn span_of(value: &Value) -> Option<Span>
-    ensures { result ≡ shapes.span_at (view value.now) }
-{
-    let first = position_of(value.get("start")?)?;
-    let second = position_of(value.get("end")?)?;
-    Some(Span { first, second })
-}
-
-fn position_of(value: &Value) -> Option<Position>
-    ensures { result ≡ shapes.position_at (view value.now) }
-{
-    let line = uinteger_of(value.get("line")?)?;
-    let column = uinteger_of(value.get("character")?)?;
-    Some(Position { line, column })
-}
-
-/// An integer from 0 to 2,147,483,647 (LSP 3.17, Base Types).
-fn uinteger_of(value: &Value) -> Option<u32>
-    ensures { result ≡ shapes.as_uinteger (view value.now) }
-{
-    match integer_of(value)? {
-        n if n >= 0 => Some(n.cast_unsigned()),
-        _ => None,
-    }
-}
-
-fn integer_at(value: &Value, name: &str) -> Option<i32>
-    ensures { result ≡ shapes.required name.now as_integer (view value.now) }
-{
-    integer_of(value.get(name)?)
-}
-
-fn integer_of(value: &Value) -> Option<i32>
-    ensures { result ≡ as_integer (view value.now) }
-{
-    i32::try_from(value.as_i64()?).ok()
-}
-
-/// The member, where it is neither missing nor null.
-fn given<'a>(value: &'a Value, name: &str) -> Option<&'a Value>
-    ensures { option_map (λ v. view v.now) result ≡ shapes.given name.now (view value.now) }
-{
-    let member = value.get(name)?;
-    if member.is_null() { None } else { Some(member) }
-}
 
 /// The items of an array.
 fn items_of(value: &Value) -> Option<&[Value]>

@@ -6,9 +6,8 @@ ghost use Rattle.lsp_explain.specs.SessionNotes as spec;
 ghost use Rattle.lsp_explain.specs.SessionNotes.{AreNotes, NotesBy, older_held, older_of};
 
 use crate::trail::misuses::{Misused, note_misuse};
-use crate::trail::renames::text_at;
 use lsp_replay::EventPlace;
-use lsp_rpc::{Answer, Message, Result, Side};
+use lsp_rpc::{Answer, Message, Result, Side, text_at};
 use lsp_session::Phase;
 use std::alloc::Global;
 

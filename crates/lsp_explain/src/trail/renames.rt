@@ -21,7 +21,7 @@ use crate::trail::last_ones::push_within;
 use crate::trail::openings::DocumentEvent;
 use lsp_docs::Call;
 use lsp_replay::EventPlace;
-use lsp_rpc::{Memory, Message, Result, RpcFault, Side, read};
+use lsp_rpc::{Memory, Message, Result, RpcFault, Side, read, text_at};
 use serde_json::Value;
 use std::alloc::Global;
 use std::collections::VecDeque;
@@ -285,13 +285,6 @@ fn each_uri(alloc: Global, files: &[Value], name: &str) -> Result<Option<Vec<Str
         uris.push(String::from_str(alloc, uri)?)?;
     }
     Ok(Some(uris))
-}
-
-/// The member of this name, if it is a text.
-pub(crate) fn text_at<'a>(value: &'a Value, name: &str) -> Option<&'a str>
-    ensures { option_map (λ text. text.now) result ≡ required name.now as_str (view value.now) }
-{
-    value.get(name)?.as_str()
 }
 
 /// Adds that the files of these URIs are gone, or that they exist.

@@ -14,6 +14,11 @@ returns-in_ok-value-in-uri c =
     let text = string (string_bytes c.in_ok-value-in-uri.value) in
     (text, c.in_ok-value-in-uri.ensures c.args.depth, λ ms h. grind (arith, members))
 
+pub returns-in_ok-value-in-version : goal.returns-in_ok-value-in-version
+returns-in_ok-value-in-version c =
+    let read = c.in_ok-value-in-version.ensures in
+    (read.0, read.1 c.args.depth, λ ms h. grind (arith, members))
+
 pub returns-in_default : goal.returns-in_default
 returns-in_default c =
     IfSome_then c.skipped.result c.skipped.ensures

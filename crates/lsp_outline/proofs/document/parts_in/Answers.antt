@@ -1,15 +1,13 @@
 use Rattle.std.proofs.Common.{◌≡◌, IsUtf8, sym, ap, ◌∙◌, arith}
 use Rattle.serde_json.specs.Data.{object}
 use Rattle.serde_json.specs.Read.{read as read_text}
-use Rattle.lsp_outline.proofs.Versioning.{text_versions}
-use Rattle.lsp_outline.proofs.versions.version_in.Goals as goal
+use Rattle.lsp_outline.proofs.Naming.{text_names}
+use Rattle.lsp_outline.proofs.document.parts_in.Goals as goal
 
 pub returns : goal.returns
 returns c =
     let utf8 : (c.in_ok-text.text.now ≡ c.args.content.now) × IsUtf8 c.args.content.now =
     grind arith in
     let found = c.in_ok-text_into.ensures in
-    c.version_of_message.ensures
-    ∙ sym found.2
-    ∙ text_versions c.args.content.now (object found.0) utf8.1
-    (ap read_text (sym utf8.0) ∙ found.1)
+    text_names c.args.content.now (object found.0) _ utf8.1 (ap read_text (sym utf8.0) ∙ found.1)
+    found.2
