@@ -91,7 +91,8 @@ impl Findings {
     }
 }
 
-/// How a position fits that denotes a place of a text, which goes so far where it lies past the end.
+/// How a position fits that denotes a place of a text, which goes so far where it lies past the
+/// end.
 pub(crate) fn fit_by(extent: Option<Extent>) -> Fit
     ensures { result ≡ spec.fit_by extent }
 {
