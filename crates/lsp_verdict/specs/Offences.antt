@@ -16,7 +16,8 @@ use Rattle.lsp_types.specs.declared.side.Side.{Side}
 use Rattle.lsp_types.specs.declared.side.Side.TheVariants.{Editor, Server}
 use Rattle.lsp_session.specs.Handshake.{is_done, is_empty, open_initializes}
 use Rattle.lsp_session.specs.Requests.{names}
-use Rattle.lsp_session.specs.Sent.{answered_from, other_side, request_of, response_id, same_side}
+use Rattle.lsp_session.specs.Sent.{Sent, answered_from, other_side, request_of, response_id}
+use Rattle.lsp_session.specs.Sent.{same_side}
 use Rattle.lsp_text.specs.Edits.{Edit}
 use Rattle.lsp_docs.specs.Calls.{Call, opens, changes, closes, saves, shows, uri_of}
 use Rattle.lsp_docs.specs.Documents.{Version, held, Terms}
