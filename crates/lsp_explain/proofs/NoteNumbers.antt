@@ -1,6 +1,7 @@
 -- How many notes there are: of no kind fewer with one event more, and so those that are found at
 -- the events are all.
-use Rattle.std.specs.Prelude.{◌≤◌, ◌+◌, ◌&&◌, ◌||◌, not, drop, length, map, take, if◌then◌else◌}
+use Rattle.std.specs.Prelude.{◌≤◌, ◌+◌, ◌-◌, ◌&&◌, ◌||◌, not, drop, length, map, take}
+use Rattle.std.specs.Prelude.{if◌then◌else◌}
 use Rattle.std.specs.Prelude.{is_some, option_and_then, option_map, unwrap_or}
 use Rattle.std.specs.List.{cons_option, filter_map}
 use Rattle.std.specs.Option.{option_or}
@@ -15,9 +16,9 @@ use Rattle.lsp_facts.specs.Fact.{Fact}
 use Rattle.lsp_replay.specs.Telling.{rule_of}
 use Rattle.lsp_replay.specs.declared.heard.EventPlace.{EventPlace}
 use Rattle.lsp_replay.proofs.Seeing.{events-push}
-use Rattle.lsp_session.specs.Handshake.{Settled, first_settled, phase, was_sent}
+use Rattle.lsp_session.specs.Handshake.{Settled, first_settled, is_done, is_waiting, phase, was_sent}
 use Rattle.lsp_session.specs.Negotiation.{agreed_at}
-use Rattle.lsp_session.specs.Sent.{Sent, is_exit, sends}
+use Rattle.lsp_session.specs.Sent.{Sent, is_exit, is_initialized, is_shutdown, sends}
 use Rattle.lsp_session.proofs.Steps.{first_settled_from-push}
 use Rattle.lsp_session.specs.declared.phase.Phase.{Phase}
 use Rattle.lsp_session.specs.declared.phase.Phase.TheVariants.{Fresh, Waiting, Answered, Ready}
@@ -51,6 +52,12 @@ use Rattle.lsp_explain.specs.Spellings.{spelling_at, spellings}
 use Rattle.lsp_explain.proofs.NotedSteps.{found_along-push, refused-push, sound-push}
 use Rattle.lsp_explain.proofs.SessionSteps.{sents-numbered}
 
+least : (n : ℕ) → 0 ≤ n
+least n = omega arith
+
+as_many : (n : ℕ) → n ≤ n
+as_many n = omega arith
+
 -- ---- kinds of notes, of each of which there are no fewer
 
 -- how many there are of all kinds
@@ -74,15 +81,18 @@ beyond-total [] (new ∷ news) g = absurd g
 beyond-total (old ∷ olds) [] g = absurd g
 beyond-total (old ∷ olds) (new ∷ news) g =
     let n = length old in
-    let more : n ≤ length new = g.0 in
-    let rest = beyond-total olds news g.1 in
-    omega (
-      arith, more, rest, length-append (drop n new) (beyond (counts olds) news), length-drop n new,
-    )
+    let left = beyond (counts olds) news in
+    ap (λ k. k + (n + total olds)) (length-append (drop n new) left)
+    ∙ sum n (length new) (length (drop n new)) (length left) (total olds) (total news) g.0
+    (length-drop n new) (beyond-total olds news g.1)
+  where
+    sum : (n m d b t u : ℕ) → n ≤ m → d ≡ m - n → b + t ≡ u → (d + b) + (n + t) ≡ m + u
+    sum n m d b t u less is rest = omega (arith, less, is, rest)
 
 -- those of all kinds, and those that only the end knows, are all
 all_are : (a b c d p r f s w x y z u : List Fact)
-    → total (a ∷ b ∷ c ∷ d ∷ p ∷ r ∷ f ∷ s ∷ w ∷ x ∷ y ∷ z ∷ []) + length u
+    → (length a + (length b + (length c + (length d + (length p + (length r + (length f
+    + (length s + (length w + (length x + (length y + (length z + 0)))))))))))) + length u
     ≡ length (a ++ b ++ c ++ d ++ u ++ (p ++ r) ++ f ++ s ++ (w ++ x ++ y ++ z))
 all_are a b c d p r f s w x y z u = omega (
   arith,
@@ -168,11 +178,11 @@ with_misuse-more : (found : List Misused) (x : Misused)
 with_misuse-more found x = by_test (has_method x.method found)
   where
     by_test : (b : Bool) → length found ≤ length (if b then found else found ++ x ∷ [])
-    by_test true = omega arith
+    by_test true = as_many (length found)
     by_test false = omega (arith, length-append found (x ∷ []))
 
 after_more : (found xs : List Misused) → length found ≤ length (misuses_after found xs)
-after_more found [] = omega arith
+after_more found [] = as_many (length found)
 after_more found (x ∷ xs) =
     let one = with_misuse-more found x in
     let rest = after_more (with_misuse found (Some x)) xs in
@@ -202,8 +212,8 @@ renamed_more said more all is =
     (by_first (renamed said) (first_from renamed_at said more))
   where
     by_first : (a b : Option OnDocument) → Grows (old_name_notes a) (old_name_notes (option_or a b))
-    by_first None b = omega arith
-    by_first (Some x) b = omega arith
+    by_first None b = least (length (old_name_notes b))
+    by_first (Some x) b = as_many (length (old_name_notes (Some x)))
 
 -- ---- the name of an encoding
 
@@ -214,14 +224,14 @@ name_by o = other_name (option_and_then (λ s. older_in s.value) o)
 
 settled_more : (before by : Option Settled)
     → Grows (name_notes (name_by before)) (name_notes (name_by (option_or before by)))
-settled_more None by = omega arith
-settled_more (Some s) by = omega arith
+settled_more None by = least (length (name_notes (name_by by)))
+settled_more (Some s) by = as_many (length (name_notes (name_by (Some s))))
 
 name_more : (said all : List Numbered) (o : Option Numbered) → all ≡ said ++ cons_option o []
     → Grows (name_notes (name_of said)) (name_notes (name_of all))
 name_more said all None is =
     subst (λ (l : List Numbered). Grows (name_notes (name_of said)) (name_notes (name_of l)))
-    (sym (is ∙ append-nil said)) (omega arith)
+    (sym (is ∙ append-nil said)) (as_many (length (name_notes (name_of said))))
 name_more said all (Some m) is =
     subst (λ (o : Option Settled). Grows (name_notes (name_of said)) (name_notes (name_by o)))
     (sym (ap (λ l. first_settled (sents l)) is
@@ -243,10 +253,20 @@ not_yet false false false false = refl
 
 phase_before : (ms : List Sent) → was_sent is_exit ms ≡ false → same_phase (phase ms) Exited ≡ false
 phase_before ms none =
-    ap (λ (b : Bool). same_phase (if b then Exited else later) Exited) none ∙ not_yet _ _ _ _
-  where
-    later : Phase
-    later = _
+    ap (λ (b : Bool). same_phase (if b then Exited
+    else (if was_sent is_shutdown ms then Stopping
+    else (if was_sent is_initialized ms then Ready
+    else (if is_done ms then Answered
+    else (if is_waiting ms then Waiting else Fresh))))) Exited) none
+    ∙ not_yet (was_sent is_shutdown ms) (was_sent is_initialized ms) (is_done ms) (is_waiting ms)
+
+phase_after : (ms : List Sent) → was_sent is_exit ms ≡ true → same_phase (phase ms) Exited ≡ true
+phase_after ms sent =
+    ap (λ (b : Bool). same_phase (if b then Exited
+    else (if was_sent is_shutdown ms then Stopping
+    else (if was_sent is_initialized ms then Ready
+    else (if is_done ms then Answered
+    else (if is_waiting ms then Waiting else Fresh))))) Exited) sent
 
 none_abrupt : (before xs : List Numbered) → was_sent is_exit (sents (before ++ xs)) ≡ false
     → each_from abrupt_by before xs ≡ []
@@ -270,7 +290,7 @@ has_exit said p is = by_test (was_sent is_exit (sents said)) refl
   where
     by_test : (b : Bool) → was_sent is_exit (sents said) ≡ b
         → same_phase (phase (sents said)) Exited ≡ true
-    by_test true sent = ap (λ (b : Bool). same_phase (if b then Exited else _) Exited) sent
+    by_test true sent = phase_after (sents said) sent
     by_test false sent =
         let none : None ≡ Some p = sym (ap (last_or None) (none_abrupt [] said sent)) ∙ is in
         absurd (cc none)
@@ -280,7 +300,7 @@ exit_stays : (said all : List Numbered) (o : Option Numbered) → all ≡ said +
     → Grows (exit_notes (abrupt_exit said)) (exit_notes (abrupt_exit all))
 exit_stays said all None is =
     subst (λ (l : List Numbered). Grows (exit_notes (abrupt_exit said)) (exit_notes (abrupt_exit l)))
-    (sym (is ∙ append-nil said)) (omega arith)
+    (sym (is ∙ append-nil said)) (as_many (length (exit_notes (abrupt_exit said))))
 exit_stays said all (Some m) is =
     subst (λ (o : Option EventPlace). Grows (exit_notes (abrupt_exit said)) (exit_notes o))
     (sym (ap abrupt_exit is ∙ ap (last_or None) (each_of-snoc abrupt_by said m)
@@ -289,9 +309,9 @@ exit_stays said all (Some m) is =
   where
     by_test : (b : Bool) (o : Option EventPlace)
         → Grows (exit_notes o) (exit_notes (unwrap_or (if b then Some (Some m.place) else None) o))
-    by_test true None = omega arith
-    by_test true (Some p) = omega arith
-    by_test false o = omega arith
+    by_test true None = least 1
+    by_test true (Some p) = as_many 1
+    by_test false o = as_many (length (exit_notes o))
 
 module _ (terms : Terms) (before : List Heard) (h : Heard) where
   abbrev events : List Event
@@ -327,8 +347,8 @@ module _ (terms : Terms) (before : List Heard) (h : Heard) where
           → (o : Option EventPlace) → abrupt_exit (numbered terms events) ≡ o
           → Grows (exit_notes (if old then None else o))
           (exit_notes (if new then None else abrupt_exit (numbered terms (heard_events after))))
-      by_refused true new is o at = omega arith
-      by_refused false new is None at = omega arith
+      by_refused true new is o at = least _
+      by_refused false new is None at = least _
       by_refused false new is (Some p) at =
           let none : new ≡ false =
           is ∙ ap (λ (b : Bool). is_some (if asks_shutdown h.note.event && not b

@@ -26,6 +26,7 @@ use Rattle.lsp_verdict.specs.declared.outcome.Outcome.TheVariants.{Judged}
 use Rattle.lsp_verdict.specs.declared.verdict.Verdict as code
 use Rattle.lsp_verdict.specs.declared.verdict.Verdict.TheVariants as verdicts
 use Rattle.lsp_verdict.specs.declared.verdict.Who.{Who}
+use Rattle.lsp_verdict.specs.declared.verdict.Who.TheVariants as who
 
 -- the program can hold it
 abbrev pub IsGiven : Verdict → Type 0
@@ -135,7 +136,8 @@ lacks_given : (completeness : Completeness) (events kept : List Event)
 lacks_given Ignored events kept = tt
 lacks_given Required events kept = by_rule (incomplete (sent_in kept))
   where
-    by_rule : (o : Option ℕ) → AllGiven (option_to_list (option_map (λ rule. no_next rule _ events) o))
+    by_rule : (o : Option ℕ)
+        → AllGiven (option_to_list (option_map (λ rule. no_next rule who.Editor events) o))
     by_rule None = tt
     by_rule (Some rule) = (no_given _ _ _ _, tt)
 

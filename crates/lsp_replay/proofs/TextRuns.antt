@@ -446,7 +446,7 @@ kept_ends n uri terms before h =
 
 pub behind_ends : (terms : Terms) (heard : List Heard) (tail : Tail)
     → CanEnd (text_behind terms heard tail)
-behind_ends terms heard tail = by_fault tail.fault
+behind_ends _ heard tail = by_fault tail.fault
   where
     by_fault : (fault : Option (ℕ × LogCode)) → CanEnd (end_answer (bad_log_of fault))
     by_fault None = few_ends
