@@ -9,7 +9,7 @@ use Rattle.serde_json.specs.Read.{read}
 use Rattle.lsp_types.specs.declared.side.Side.{Side}
 use Rattle.lsp_types.specs.declared.side.Side.TheVariants.{Editor, Server}
 use Rattle.lsp_outline.specs.Named.{content_view, named_in_value, naming_view}
-use Rattle.lsp_outline.specs.Versions.{AreNamed, Names, message_view, parts_view}
+use Rattle.lsp_outline.specs.Versions.{AreNamed, Names, parts_view}
 use Rattle.lsp_outline.specs.Versions.{versioned_in_value}
 use Rattle.lsp_outline.specs.declared.document.ContentParts.{ContentParts}
 
@@ -20,18 +20,18 @@ of_value shape bytes = if is_utf8 bytes then option_and_then shape (read bytes) 
 -- nothing, if it is no JSON text
 no_text_gives : {X : Type 0} (shape : Data → Option X) (bytes : List ℕ)
     → (IsUtf8 bytes → read bytes ≡ None) → None ≡ of_value shape bytes
-no_text_gives {X} shape bytes none = by_test (is_utf8 bytes) refl
+no_text_gives shape bytes none = by_test (is_utf8 bytes) refl
   where
     by_test : (b : Bool) → is_utf8 bytes ≡ b
-        → None ≡ (if b then option_and_then shape (read bytes) else None {A = X})
+        → None ≡ (if b then option_and_then shape (read bytes) else None)
     by_test false is = refl
     by_test true is = sym (ap (option_and_then shape) (none (IsUtf8-from_is_utf8 bytes is)))
 
 -- the shape of its value, if it is one
 pub text_gives : {X : Type 0} (shape : Data → Option X) (bytes : List ℕ) (d : Data) → IsUtf8 bytes
     → read bytes ≡ Some d → shape d ≡ of_value shape bytes
-text_gives {X} shape bytes d utf8 is =
-    sym (ap (λ (b : Bool). if b then option_and_then shape (read bytes) else None {A = X})
+text_gives shape bytes d utf8 is =
+    sym (ap (λ (b : Bool). if b then option_and_then shape (read bytes) else None)
     (is_utf8-from_IsUtf8 bytes utf8)
     ∙ ap (option_and_then shape) is)
 
