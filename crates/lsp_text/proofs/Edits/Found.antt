@@ -135,7 +135,8 @@ over_a_line_end : found Utf16 (97 ∷ 13 ∷ 10 ∷ 98 ∷ []) (with_length (bet
     ≡ other (pos 2) 3 3 3
 over_a_line_end = refl
 
-below_zero : found Utf32 faces (with_length (between 0 0 0 0) (negsuc 0) ∷ []) ≡ other (negsuc 0) 0 0 0
+-- no length
+below_zero : found Utf32 faces (with_length (between 0 0 0 0) (negsuc 0) ∷ []) ≡ nothing
 below_zero = refl
 
 none_sent : found Utf16 faces (record { span = Some (between 0 0 0 3); range_length = None; text = [] } ∷ []) ≡ nothing
