@@ -262,7 +262,7 @@ impl Losses {
             → lost ≡ is_on_lost terms before (option_map call_view said.entry)) }
     {
         let is_noted = self.documents.is_lost(said)?;
-        Ok(is_noted || (self.unsynced && said.is_some()))
+        Ok(is_noted | (self.unsynced & said.is_some()))
     }
 
     /// Whether an event of the handshake was refused, and no answer has settled it.
