@@ -12,7 +12,6 @@ use Rattle.lsp_rpc.specs.Ident.{Ident}
 use Rattle.lsp_rpc.specs.Message.{Message, request, notification, response}
 use Rattle.lsp_rpc.specs.Message.{Reply, result, error}
 use Rattle.lsp_rpc.specs.Outline.{outline}
-use Rattle.lsp_rpc.specs.Reading as rpc
 use Rattle.lsp_rpc.specs.Shape.{member}
 use Rattle.lsp_rpc.specs.View.{message_view}
 use Rattle.lsp_rpc.specs.declared.message.Answer.{Answer}
@@ -22,49 +21,21 @@ use Rattle.lsp_rpc.specs.declared.message.Message as lent
 use Rattle.lsp_rpc.specs.declared.message.Message.TheVariants as lents
 use Rattle.lsp_types.specs.declared.side.Side.TheVariants.{Editor, Server}
 use Rattle.lsp_verdict.specs.Event.{Event, message}
-use Rattle.lsp_verdict.specs.Placed.{Reads}
 use Rattle.lsp_replay.specs.declared.heard.EventPlace.{EventPlace}
-use Rattle.lsp_outline.specs.Named.{named_in}
-use Rattle.lsp_explain.specs.EditRequests.{EditRequest, Holds}
-use Rattle.lsp_explain.specs.EditRequests.{edit_request, is_formatting, is_rename, most_requests}
-use Rattle.lsp_explain.specs.EditRequests.{request_of, request_view}
+use Rattle.lsp_outline.specs.Versions.{Versioned}
+use Rattle.lsp_explain.specs.EditRequests.{is_formatting, is_rename, request_of}
 use Rattle.lsp_explain.specs.History.{last_ones, with_room}
 use Rattle.lsp_explain.specs.LateEdits.{HoldsLate, LateAnswer, late_view}
 use Rattle.lsp_explain.specs.LateEdits.{most_late}
-use Rattle.lsp_explain.specs.Naming.{diagnosed_in, params_of}
+use Rattle.lsp_explain.specs.Naming.{params_of, version_named}
 use Rattle.lsp_explain.specs.Refusals.{is_request}
+use Rattle.lsp_explain.specs.Requests.{Request, request_at}
 use Rattle.lsp_explain.specs.ServerEdits.{edited_in_message, in_diagnostics}
 use Rattle.lsp_explain.specs.ServerEdits.{answered, edit_in, in_answer}
 use Rattle.lsp_explain.specs.ServerEdits.{in_request, in_whole}
-use Rattle.lsp_explain.specs.declared.notes.edit_requests.EditRequest as code
 use Rattle.lsp_explain.specs.declared.notes.late_edits.LateAnswer as answer
 use Rattle.lsp_explain.proofs.History.{held-push}
-use Rattle.lsp_explain.proofs.NamedDocuments.{names_so}
-
--- ---- what is held of requests
-
--- nothing more
-pub none_asked : (o : Option EditRequest) (kept : List code.EditRequest) → o ≡ None
-    → Holds (cons_option o []) kept kept
-none_asked o kept none = λ rs are.
-    are
-    ∙ ap (last_ones most_requests) (sym (append-nil rs))
-    ∙ ap (λ (w : Option EditRequest). last_ones most_requests (rs ++ cons_option w [])) (sym none)
-
--- one more
-pub one_asked : (r : code.EditRequest) (old new : List code.EditRequest)
-    → new ≡ with_room most_requests old ++ r ∷ []
-    → Holds (request_view r ∷ []) old new
-one_asked r old new pushed = λ rs are.
-    let some : 0 < most_requests = omega arith in
-    held-push request_view most_requests old new r rs some pushed are
-
--- a request that is lent, as it is seen
-pub asked_on : (o : Option (Bor code.EditRequest))
-    → option_map (λ (r : Bor code.EditRequest). request_view r.now) o
-    ≡ option_map request_view (option_map (λ (r : Bor code.EditRequest). r.now) o)
-asked_on None = refl
-asked_on (Some r) = refl
+use Rattle.lsp_explain.proofs.NamedDocuments.{editor_names}
 
 -- ---- what is held of answers
 
@@ -127,7 +98,7 @@ edit_of_request (response own reply) is = absurd (cc is)
 -- a notification
 pub has_notification : (terms : Terms) (before : List Event) (uris : List (List ℕ))
     (p : EventPlace) (m : Message) (method : List ℕ) → outline m ≡ notification method None
-    → in_diagnostics p (diagnosed_in Server m) ≡ edited_in_message terms before uris p m
+    → in_diagnostics p (version_named Server m) ≡ edited_in_message terms before uris p m
 has_notification terms before uris p (request own name params) method same = absurd (cc same)
 has_notification terms before uris p (notification name params) method same = refl
 has_notification terms before uris p (response own (result d)) method same = absurd (cc same)
@@ -155,30 +126,32 @@ none_answered uris (response own reply) = refl
 -- ---- what a message of the editor asks for
 
 -- a request of this method, whose params name this document
-abbrev pub request_named : EventPlace → List ℕ → Option (List ℕ) → Option EditRequest
+abbrev pub request_named : EventPlace → List ℕ → Option (List ℕ) → Option Request
 request_named p method named =
-    if is_rename method then Some (edit_request p None)
-    else (if is_formatting method then option_map (λ uri. edit_request p (Some uri)) named else None)
+    if is_rename method then Some (request_at p None)
+    else (if is_formatting method then option_map (λ uri. request_at p (Some uri)) named else None)
 
-pub asks_edits : (p : EventPlace) (bytes : List ℕ) (m : Message) (id : Ident) (method : List ℕ)
-    → rpc.Reads bytes m → outline m ≡ request id method None
-    → request_of p Editor m ≡ request_named p method (named_in Editor bytes)
-asks_edits p bytes (request own name params) id method reads same =
+pub asks_edits : (p : EventPlace) (m : Message) (id : Ident) (method : List ℕ)
+    (named : Option Versioned) → outline m ≡ request id method None → named ≡ version_named Editor m
+    → request_of p Editor m
+    ≡ request_named p method (option_map (λ (v : Versioned). v.uri) named)
+asks_edits p (request own name params) id method named same are =
     let is : name ≡ method = cc same in
-    ap (request_named p name) (names_so Editor bytes (request own name params) reads refl)
-    ∙ ap (λ n. request_named p n (named_in Editor bytes)) is
-asks_edits p bytes (notification name params) id method reads same = absurd (cc same)
-asks_edits p bytes (response own (result d)) id method reads same = absurd (cc same)
-asks_edits p bytes (response own (error code)) id method reads same = absurd (cc same)
+    ap (request_named p name)
+    (sym (ap (option_map (λ (v : Versioned). v.uri)) are ∙ editor_names (request own name params)))
+    ∙ ap (λ n. request_named p n (option_map (λ (v : Versioned). v.uri) named)) is
+asks_edits p (notification name params) id method named same are = absurd (cc same)
+asks_edits p (response own (result d)) id method named same are = absurd (cc same)
+asks_edits p (response own (error code)) id method named same are = absurd (cc same)
 
 module _ (p : EventPlace) (method : List ℕ) (named : Option (List ℕ)) where
-  abbrev asked_by : Bool → Bool → Option EditRequest
+  abbrev asked_by : Bool → Bool → Option Request
   asked_by rename formatting =
-      if rename then Some (edit_request p None)
-      else (if formatting then option_map (λ uri. edit_request p (Some uri)) named else None)
+      if rename then Some (request_at p None)
+      else (if formatting then option_map (λ uri. request_at p (Some uri)) named else None)
 
   pub asks_rename : is_rename method ≡ true
-      → request_named p method named ≡ Some (edit_request p None)
+      → request_named p method named ≡ Some (request_at p None)
   asks_rename is = ap (λ b. asked_by b (is_formatting method)) is
 
   pub asks_other : is_rename method ≡ false → is_formatting method ≡ false
@@ -186,7 +159,7 @@ module _ (p : EventPlace) (method : List ℕ) (named : Option (List ℕ)) where
   asks_other none also = λ i. asked_by (none i) (also i)
 
   pub asks_format : is_rename method ≡ false → is_formatting method ≡ true
-      → request_named p method named ≡ option_map (λ uri. edit_request p (Some uri)) named
+      → request_named p method named ≡ option_map (λ uri. request_at p (Some uri)) named
   asks_format none is = λ i. asked_by (none i) (is i)
 
 -- one that is no request

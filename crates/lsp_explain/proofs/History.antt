@@ -21,7 +21,8 @@ use Rattle.lsp_verdict.specs.Offences.{kept_of, rule_at}
 use Rattle.lsp_verdict.proofs.LookBackLemmas.{each_of-snoc}
 use Rattle.lsp_replay.specs.Lines.{place_of}
 use Rattle.lsp_replay.specs.declared.heard.EventPlace.{EventPlace}
-use Rattle.lsp_explain.specs.History.{last_ones, last_that, since_last, with_room, KeptCall, doing}
+use Rattle.lsp_explain.specs.History.{HoldsLast, last_ones, last_that, since_last, with_room}
+use Rattle.lsp_explain.specs.History.{KeptCall, doing}
 use Rattle.lsp_explain.specs.History.{each_kept, kept_as, OnDocument, is_change, is_closing}
 use Rattle.lsp_explain.specs.History.{is_opening, is_showing}
 use Rattle.lsp_explain.specs.declared.trail.step.Step.{Step}
@@ -76,6 +77,20 @@ held-push view most old new x all some more are =
     by_test true = refl
     by_test false = sym (drop-map view 1 old)
 
+-- nothing more
+pub none_held : {A B : Type 0} (view : A → B) (most : ℕ) (o : Option B) (kept : List A) → o ≡ None
+    → HoldsLast view most (cons_option o []) kept kept
+none_held {A} {B} view most o kept none = λ all are.
+    are
+    ∙ ap (last_ones most) (sym (append-nil all))
+    ∙ ap (λ (w : Option B). last_ones most (all ++ cons_option w [])) (sym none)
+
+-- one more
+pub one_held : {A B : Type 0} (view : A → B) (most : ℕ) (x : A) (old new : List A) → 0 < most
+    → new ≡ with_room most old ++ x ∷ [] → HoldsLast view most (view x ∷ []) old new
+one_held view most x old new some pushed = λ all are.
+    held-push view most old new x all some pushed are
+
 -- ---- the last one that passes
 
 -- the last of the second part, or else of the first
@@ -107,6 +122,19 @@ pub last_held : {A B : Type 0} (view : A → B) (p : B → Bool) (first second a
 last_held view p first second all x y is_x is_y whole =
     ap (option_map view) (last_of_parts (λ a. p (view a)) first second all x y is_x is_y whole)
     ∙ last_seen view p all
+
+-- one that is lent
+pub last_lent : {A B : Type 0} (view : A → B) (p : B → Bool) (first second all : List A)
+    (x y : Option (Bor A)) → option_map (λ r. r.now) x ≡ last_that (λ a. p (view a)) first
+    → option_map (λ r. r.now) y ≡ last_that (λ a. p (view a)) second → first ++ second ≡ all
+    → option_map (λ (r : Bor A). view r.now) (option_or y x) ≡ last_that p (map view all)
+last_lent {A} {B} view p first second all x y is_x is_y whole =
+    seen (option_or y x) ∙ last_held view p first second all x y is_x is_y whole
+  where
+    seen : (o : Option (Bor A)) → option_map (λ (r : Bor A). view r.now) o
+        ≡ option_map view (option_map (λ (r : Bor A). r.now) o)
+    seen None = refl
+    seen (Some r) = refl
 
 -- ---- what comes behind it
 

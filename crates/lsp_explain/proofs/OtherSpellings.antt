@@ -9,25 +9,21 @@ use Rattle.std.proofs.lemmas.List.Folds.{find-append}
 use Rattle.lsp_docs.specs.Calls.{Call, opens, changes, closes, saves, shows}
 use Rattle.lsp_docs.specs.Documents.{Terms, Version, held, revised, versioned}
 use Rattle.lsp_docs.proofs.HeldSteps.{held-snoc}
-use Rattle.lsp_rpc.specs.Message.{Message}
-use Rattle.lsp_rpc.specs.Reading as rpc
-use Rattle.lsp_rpc.specs.declared.act.Spoken.{Spoken}
-use Rattle.lsp_types.specs.declared.side.Side.{Side}
 use Rattle.lsp_verdict.specs.Event.{Event, call_at, calls, fault, message, sent_of, snapshot}
 use Rattle.lsp_verdict.specs.Heard.{Heard, heard_events}
 use Rattle.lsp_verdict.specs.LookBack.{each_of}
 use Rattle.lsp_verdict.specs.Offences.{kept_of, rule_at}
-use Rattle.lsp_verdict.specs.Placed.{Reads, content}
 use Rattle.lsp_verdict.proofs.LookBackLemmas.{each_of-snoc}
 use Rattle.lsp_verdict.proofs.Offences.Steps.{kept-push}
 use Rattle.lsp_replay.specs.Lines.{place_of}
-use Rattle.lsp_replay.specs.Telling.{IsSpoken, kept_before, rule_of}
+use Rattle.lsp_replay.specs.Telling.{kept_before, rule_of}
 use Rattle.lsp_replay.specs.declared.heard.EventPlace.{EventPlace}
 use Rattle.lsp_replay.proofs.Seeing.{events-push}
 use Rattle.lsp_explain.specs.DocumentNotes.{DocumentNote, document_note, first_notes, is_noted}
 use Rattle.lsp_explain.specs.DocumentNotes.{notes_view, with_note}
 use Rattle.lsp_explain.specs.History.{OnDocument, on_document}
-use Rattle.lsp_explain.specs.Naming.{if_unopened, named_by}
+use Rattle.lsp_explain.specs.Naming.{if_unopened, version_named_at}
+use Rattle.lsp_outline.specs.Versions.{Versioned}
 use Rattle.lsp_explain.specs.Saves.{unopened_save}
 use Rattle.lsp_explain.specs.Spellings.{AreSpellings, HoldsOthers, similar_note}
 use Rattle.lsp_explain.specs.Spellings.{similar_words, spelling_at, spelling_by, spelling_note}
@@ -222,43 +218,41 @@ none_before terms before call is = refl
 
 module _ (terms : Terms) (before : List Heard) (h : Heard) (old : Spellings)
     (are : AreSpellings terms old (heard_events before)) (kept_here : rule_of terms before h ≡ None)
-    (unsaid : call_at (kept_before terms before) h.note.event ≡ None) (side by : Side)
-    (bytes : List ℕ) (s : Spoken) (reads : Reads (content side bytes) h.note.event)
-    (spoken : IsSpoken (kept_before terms before) h.note.event by s) (new : Spellings) where
+    (unsaid : call_at (kept_before terms before) h.note.event ≡ None)
+    (named : Option Versioned) (names : named ≡ version_named_at h.note.event) (new : Spellings) where
   abbrev events : List Event
   events = heard_events before
 
   abbrev own : List Call
   own = calls (kept_of terms events)
 
-  abbrev m : Message
-  m = spoken.sent.message
-
-  own_side : spoken.sent.side ≡ side
-  own_side = (subst (λ (x : Event). Reads (content side bytes) x) spoken.is reads).by
-
-  pub own_reads : rpc.Reads bytes m
-  own_reads = (subst (λ (x : Event). Reads (content side bytes) x) spoken.is reads).reads
+  abbrev unopened : Option Versioned → Option (List ℕ)
+  unopened o =
+      option_and_then (if_unopened terms own) (option_map (λ (v : Versioned). v.uri) o)
 
   -- what it names
+  names_by : (p : EventPlace) (e : Event) → call_at (kept_of terms events) e ≡ None
+      → option_and_then (spelling_by terms events p) (sent_of e)
+      ≡ option_and_then (spelling_note terms events p) (unopened (version_named_at e))
+  names_by p (message m) none =
+      ap (λ (o : Option Call). option_and_then (spelling_note terms events p)
+      (unopened_in terms own o m)) none
+  names_by p (fault side rule) none = refl
+  names_by p (snapshot uri number text) none = refl
+
   names_as : (p : EventPlace) → p ≡ place_of events h.note.event
       → option_and_then (spelling_by terms events (place_of events h.note.event))
       (sent_of h.note.event)
-      ≡ option_and_then (spelling_note terms events p)
-      (option_and_then (if_unopened terms own) (named_by side m))
+      ≡ option_and_then (spelling_note terms events p) (unopened named)
   names_as p at =
       ap (λ (q : EventPlace). option_and_then (spelling_by terms events q) (sent_of h.note.event))
       (sym at)
-      ∙ ap (λ (x : Event). option_and_then (spelling_by terms events p) (sent_of x)) spoken.is
-      ∙ ap (λ (o : Option Call). option_and_then (spelling_note terms events p)
-      (unopened_in terms own o spoken.sent))
-      (sym (ap (call_at (kept_of terms events)) spoken.is) ∙ unsaid)
-      ∙ ap (λ (x : Side). option_and_then (spelling_note terms events p)
-      (option_and_then (if_unopened terms own) (named_by x m))) own_side
+      ∙ names_by p h.note.event unsaid
+      ∙ ap (λ (o : Option Versioned). option_and_then (spelling_note terms events p) (unopened o))
+      (sym names)
 
   -- **one that names no document that is not open**
-  pub named_none : new.named ≡ old.named
-      → option_and_then (if_unopened terms own) (named_by side m) ≡ None
+  pub named_none : new.named ≡ old.named → unopened named ≡ None
       → AreSpellings terms new (heard_events (before ++ h ∷ []))
   named_none same none =
       subst (AreSpellings terms new) (sym (events-push before h))
@@ -269,7 +263,7 @@ module _ (terms : Terms) (before : List Heard) (h : Heard) (old : Spellings)
 
   -- **one that names one**
   pub named_one : (p : EventPlace) (uri : List ℕ) → p ≡ place_of events h.note.event
-      → option_and_then (if_unopened terms own) (named_by side m) ≡ Some uri
+      → unopened named ≡ Some uri
       → notes_view new.named.items
       ≡ with_note (notes_view old.named.items) (spelling_note terms events p uri)
       → AreSpellings terms new (heard_events (before ++ h ∷ []))

@@ -1,10 +1,9 @@
 -- Which requests about documents the server refused, with one event more.
-use Rattle.std.specs.Borrow.{Bor}
 use Rattle.std.specs.Prelude.{option_and_then, option_map, unwrap_or, is_some}
 use Rattle.std.specs.Prelude.{if◌then◌else◌}
 use Rattle.std.specs.List.{cons_option}
-use Rattle.std.proofs.Common.{◌≡◌, ◌<◌, ℕ, true, false, List, [], ◌∷◌, ◌++◌, Option, Some, None}
-use Rattle.std.proofs.Common.{refl, sym, ap, ◌∙◌, subst, append-nil, arith}
+use Rattle.std.proofs.Common.{◌≡◌, ℕ, true, false, List, [], ◌∷◌, ◌++◌, Option, Some, None, refl}
+use Rattle.std.proofs.Common.{sym, ap, ◌∙◌, subst}
 use Rattle.lsp_docs.specs.Calls.{Call}
 use Rattle.serde_json.specs.Data.{Data}
 use Rattle.lsp_docs.specs.Documents.{Terms}
@@ -12,7 +11,6 @@ use Rattle.lsp_rpc.specs.Ident.{Ident}
 use Rattle.lsp_rpc.specs.Message.{Message, request, notification, response, result, error}
 use Rattle.lsp_rpc.specs.Outline.{outline}
 use Rattle.lsp_rpc.specs.Params.{act_at}
-use Rattle.lsp_rpc.specs.Reading as rpc
 use Rattle.lsp_rpc.specs.View.{message_view}
 use Rattle.lsp_rpc.specs.declared.act.Spoken.{Spoken}
 use Rattle.lsp_session.specs.Negotiation.{encoding, sync_kind}
@@ -31,19 +29,19 @@ use Rattle.lsp_replay.specs.Telling.{IsSpoken, kept_before, rule_of}
 use Rattle.lsp_replay.specs.declared.heard.EventPlace.{EventPlace}
 use Rattle.lsp_replay.proofs.Seeing.{events-push}
 use Rattle.lsp_explain.specs.DocumentNotes.{DocumentNote, first_notes, notes_view, with_note}
-use Rattle.lsp_explain.specs.History.{last_ones, with_room}
-use Rattle.lsp_outline.specs.Named.{named_in}
-use Rattle.lsp_explain.specs.Naming.{may_name, named_by}
-use Rattle.lsp_explain.specs.Refusals.{AreRefusals, Holds, Request, event_request}
+use Rattle.lsp_outline.specs.Named.{document_in}
+use Rattle.lsp_outline.specs.Versions.{Versioned}
+use Rattle.lsp_explain.specs.History.{last_ones}
+use Rattle.lsp_explain.specs.Naming.{params_of, version_named}
+use Rattle.lsp_explain.specs.Refusals.{AreRefusals, event_request}
 use Rattle.lsp_explain.specs.Refusals.{is_request, most_requests, open_document}
 use Rattle.lsp_explain.specs.Refusals.{refusal_at, refusal_by, refusal_note, refused_document}
-use Rattle.lsp_explain.specs.Refusals.{refused_id, refused_request, refuses, request_at}
-use Rattle.lsp_explain.specs.Refusals.{request_of, request_view, requests}
+use Rattle.lsp_explain.specs.Refusals.{refused_id, refused_request, refuses, request_of, requests}
+use Rattle.lsp_explain.specs.Requests.{Holds, Request, request_at, request_view}
 use Rattle.lsp_explain.specs.declared.notes.refusals.Refusals.{Refusals}
-use Rattle.lsp_explain.specs.declared.notes.requests.Request as code
 use Rattle.lsp_explain.proofs.DocumentNoting.{first_notes_with}
-use Rattle.lsp_explain.proofs.History.{held-push, kept_more}
-use Rattle.lsp_explain.proofs.NamedDocuments.{names_so}
+use Rattle.lsp_explain.proofs.History.{kept_more, none_held}
+use Rattle.lsp_explain.proofs.NamedDocuments.{editor_names}
 use Rattle.lsp_explain.proofs.Standard.{on_document as said_on}
 
 -- ---- one event more
@@ -63,7 +61,7 @@ module _ (terms : Terms) (events : List Event) (e : Event)
       (refused : Option DocumentNote) → AreRefusals terms old events
       → event_request (place_of events e) (kept_of terms events) e ≡ asked
       → option_and_then (refusal_by terms events (place_of events e)) (sent_of e) ≡ refused
-      → Holds (cons_option asked []) old.asked.items new.asked.items
+      → Holds most_requests (cons_option asked []) old.asked.items new.asked.items
       → notes_view new.refused.items ≡ with_note (notes_view old.refused.items) refused
       → AreRefusals terms new (events ++ e ∷ [])
   refusals_more old new asked refused are asks_it refuses_it holds noted = record {
@@ -80,45 +78,14 @@ module _ (terms : Terms) (events : List Event) (e : Event)
         ∙ sym (ap first_notes (each_of-snoc (refusal_at terms) events e));
   }
 
--- ---- what is held of requests
-
--- nothing more
-pub none_held : (o : Option Request) (kept : List code.Request) → o ≡ None
-    → Holds (cons_option o []) kept kept
-none_held o kept none = λ rs are.
-    are
-    ∙ ap (last_ones most_requests) (sym (append-nil rs))
-    ∙ ap (λ (w : Option Request). last_ones most_requests (rs ++ cons_option w [])) (sym none)
-
--- one more
-pub one_held : (o : Option Request) (r : code.Request) (old new : List code.Request)
-    → o ≡ Some (request_view r) → new ≡ with_room most_requests old ++ r ∷ []
-    → Holds (cons_option o []) old new
-one_held o r old new is pushed = λ rs are.
-    let some : 0 < most_requests = omega arith in
-    held-push request_view most_requests old new r rs some pushed are
-    ∙ ap (λ (w : Option Request). last_ones most_requests (rs ++ cons_option w [])) (sym is)
-
--- a request that is lent, as it is seen
-pub seen_on : (o : Option (Bor code.Request))
-    → option_map (λ (r : Bor code.Request). request_view r.now) o
-    ≡ option_map request_view (option_map (λ (r : Bor code.Request). r.now) o)
-seen_on None = refl
-seen_on (Some r) = refl
-
 -- ---- a request
 
 -- a request asks about the document that it names
 asks_one : (p : EventPlace) (m : Message) → is_request m ≡ true
-    → request_of p Editor m ≡ Some (request_at p (named_by Editor m))
+    → request_of p Editor m ≡ Some (request_at p (option_and_then (document_in Editor) (params_of m)))
 asks_one p (request own method params) is = refl
 asks_one p (notification method params) is = absurd (cc is)
 asks_one p (response own reply) is = absurd (cc is)
-
-may_ask : (m : Message) → is_request m ≡ true → may_name Editor m ≡ true
-may_ask (request own method params) is = refl
-may_ask (notification method params) is = absurd (cc is)
-may_ask (response own reply) is = absurd (cc is)
 
 -- a message that is none asks nothing
 asks_none : (p : EventPlace) (m : Message) → is_request m ≡ false → request_of p Editor m ≡ None
@@ -141,13 +108,13 @@ pub unasked : (p : EventPlace) (m said : Message) → outline m ≡ outline said
     → is_request said ≡ false → request_of p Editor m ≡ None
 unasked p m said same is = asks_none p m (requests_alike m said same ∙ is)
 
-pub asked_so : (p : EventPlace) (bytes : List ℕ) (m said : Message) → rpc.Reads bytes m
-    → outline m ≡ outline said → is_request said ≡ true
-    → request_of p Editor m ≡ Some (request_at p (named_in Editor bytes))
-asked_so p bytes m said reads same is =
-    let asks = requests_alike m said same ∙ is in
-    asks_one p m asks
-    ∙ ap (λ o. Some (request_at p o)) (names_so Editor bytes m reads (may_ask m asks))
+pub asked_so : (p : EventPlace) (m said : Message) (named : Option Versioned)
+    → outline m ≡ outline said → is_request said ≡ true → named ≡ version_named Editor m
+    → request_of p Editor m ≡ Some (request_at p (option_map (λ (v : Versioned). v.uri) named))
+asked_so p m said named same is are =
+    asks_one p m (requests_alike m said same ∙ is)
+    ∙ ap (λ o. Some (request_at p o))
+    (sym (ap (option_map (λ (v : Versioned). v.uri)) are ∙ editor_names m))
 
 refused_id-outline : (m : Message) → refused_id m ≡ refused_id (outline m)
 refused_id-outline (request own method params) = refl
@@ -190,9 +157,6 @@ module _ (terms : Terms) (before : List Heard) (h : Heard) (old : Refusals)
   own_side : spoken.sent.side ≡ side
   own_side = (subst (λ (x : Event). Reads (content side bytes) x) spoken.is reads).by
 
-  own_reads : rpc.Reads bytes m
-  own_reads = (subst (λ (x : Event). Reads (content side bytes) x) spoken.is reads).reads
-
   -- what it asks, and what it refuses
   asks_as : (sender : Side) → side ≡ sender
       → event_request (place_of events e) (kept_of terms events) e ≡ request_of p sender m
@@ -211,14 +175,14 @@ module _ (terms : Terms) (before : List Heard) (h : Heard) (old : Refusals)
 
   -- **one of the editor**
   pub asked_more : side ≡ Editor
-      → ((w : Message) → rpc.Reads bytes w → outline w ≡ outline (message_view s.message)
-      → Holds (cons_option (request_of p Editor w) []) old.asked.items new.asked.items)
+      → Holds most_requests (cons_option (request_of p Editor m) []) old.asked.items
+      new.asked.items
       → new.refused ≡ old.refused
       → AreRefusals terms new (heard_events (before ++ h ∷ []))
   asked_more is holds same =
       subst (AreRefusals terms new) (sym (events-push before h))
       (refusals_more terms events e kept_here old new (request_of p Editor m) None are
-      (asks_as Editor is) (refuses_as Editor is) (holds m own_reads spoken.says)
+      (asks_as Editor is) (refuses_as Editor is) holds
       (ap (λ r. notes_view r.items) same))
 
   -- **one of the server**
@@ -232,8 +196,8 @@ module _ (terms : Terms) (before : List Heard) (h : Heard) (old : Refusals)
       (refusals_more terms events e kept_here old new None refused are (asks_as Server is)
       (refuses_as Server is ∙ ap (refusal_note terms events p)
       (refuses_alike m (message_view s.message) spoken.says))
-      (subst (λ q. Holds [] old.asked.items q.items) (sym same)
-      (none_held None old.asked.items refl)) noted)
+      (subst (λ q. Holds most_requests [] old.asked.items q.items) (sym same)
+      (none_held request_view most_requests None old.asked.items refl)) noted)
 
 -- ---- an event that says something of a document
 
@@ -288,4 +252,4 @@ refusals_called terms before h r call are kept reads says =
     let quiet = quiet_call terms events h.note.event h.raw call kept reads says in
     subst (AreRefusals terms r) (sym (events-push before h))
     (refusals_more terms events h.note.event kept r r None None are quiet.asks_none quiet.refuses_it
-    (none_held None r.asked.items refl) refl)
+    (none_held request_view most_requests None r.asked.items refl) refl)

@@ -14,10 +14,8 @@ use Rattle.lsp_docs.specs.Taken.{call_view}
 use Rattle.lsp_docs.specs.declared.call.Call as calling
 use Rattle.lsp_docs.specs.declared.call.Call.TheVariants as saying
 use Rattle.lsp_rpc.specs.Message.{Message, notification}
-use Rattle.lsp_rpc.specs.Outline.{outline}
 use Rattle.lsp_rpc.specs.Params.{act_at}
 use Rattle.lsp_rpc.specs.Reading as rpc
-use Rattle.lsp_rpc.specs.View.{message_view}
 use Rattle.lsp_rpc.specs.declared.act.Spoken.{Spoken}
 use Rattle.lsp_rpc.specs.declared.message.Answer.TheVariants as answers
 use Rattle.lsp_session.specs.Negotiation.{encoding, sync_kind}
@@ -42,9 +40,8 @@ use Rattle.lsp_replay.proofs.Seeing.{events-push}
 use Rattle.lsp_outline.specs.Versions.{versioned_at}
 use Rattle.lsp_explain.specs.DocumentNotes.{DocumentNote, document_note, first_notes}
 use Rattle.lsp_explain.specs.DocumentNotes.{is_noted, notes_view, with_note}
-use Rattle.lsp_explain.specs.EditRequests.{EditRequest, Holds, edit_requests, event_request}
-use Rattle.lsp_explain.specs.EditRequests.{most_requests}
-use Rattle.lsp_explain.specs.EditRequests.{request_of}
+use Rattle.lsp_explain.specs.EditRequests.{edit_requests, event_request, most_requests, request_of}
+use Rattle.lsp_explain.specs.Requests.{Holds, Request, request_view}
 use Rattle.lsp_explain.specs.History.{last_ones, last_that, on_document}
 use Rattle.lsp_explain.specs.LateEdits.{HoldsLate, is_since, lates_view}
 use Rattle.lsp_explain.specs.LateEdits.{most_late, words_if_late, words_since}
@@ -62,8 +59,8 @@ use Rattle.lsp_explain.specs.declared.notes.edited.Edited as seen
 use Rattle.lsp_explain.specs.declared.notes.server_edits.ServerEdits.{ServerEdits}
 use Rattle.lsp_explain.specs.declared.trail.mark.VersionEvent.{VersionEvent}
 use Rattle.lsp_explain.proofs.DocumentNoting.{first_notes_with}
-use Rattle.lsp_explain.proofs.History.{kept_more}
-use Rattle.lsp_explain.proofs.EditsByKind.{late_joined, none_asked, none_late}
+use Rattle.lsp_explain.proofs.History.{kept_more, none_held}
+use Rattle.lsp_explain.proofs.EditsByKind.{late_joined, none_late}
 use Rattle.lsp_explain.proofs.Standard.{on_document as said_on}
 
 -- ---- lists that are made of all events
@@ -133,13 +130,13 @@ module _ (terms : Terms) (events : List Event) (e : Event)
       ∙ ap first_notes (sym (all_more f es is))
 
   -- **what is held stands for it too**
-  pub edits_more : (old new : ServerEdits) (asked : Option EditRequest) (es : List Edited)
+  pub edits_more : (old new : ServerEdits) (asked : Option Request) (es : List Edited)
       (late : Option DocumentNote) → AreServerEdits terms old events
       → event_request here (kept_of terms events) e ≡ asked
       → edited_at_place terms events e here (sent_of e) ≡ es
       → option_and_then (late_by terms events (calls_with terms events e) here)
       (said_at terms events e) ≡ late
-      → Holds (cons_option asked []) old.asked.items new.asked.items
+      → Holds most_requests (cons_option asked []) old.asked.items new.asked.items
       → HoldsLate (filter_map (late_answer_at terms events e here) es) old.late.items new.late.items
       → notes_view new.late_edits.items ≡ with_note (notes_view old.late_edits.items) late
       → notes_view new.outside.items ≡ with_notes (notes_view old.outside.items)
@@ -270,15 +267,15 @@ module _ (terms : Terms) (before : List Heard) (h : Heard) (old : ServerEdits)
 
   -- **one of the editor**
   pub edits_asked : side ≡ Editor
-      → ((w : Message) → rpc.Reads bytes w → outline w ≡ outline (message_view s.message)
-      → Holds (cons_option (request_of p Editor w) []) old.asked.items new.asked.items)
+      → Holds most_requests (cons_option (request_of p Editor said) []) old.asked.items
+      new.asked.items
       → new.late ≡ old.late → new.late_edits ≡ old.late_edits → new.outside ≡ old.outside
       → new.overlaps ≡ old.overlaps → new.unsent ≡ old.unsent
       → AreServerEdits terms new (heard_events (before ++ h ∷ []))
   edits_asked is holds late late_edits outside overlapping unsent =
       subst (AreServerEdits terms new) (sym (events-push before h))
       (edits_more terms earlier told kept_here old new (request_of p Editor said) [] None are
-      (asks_as Editor is) (has_as Editor is) none_said (holds said own_reads spoken.says)
+      (asks_as Editor is) (has_as Editor is) none_said holds
       (subst (λ q. HoldsLate [] old.late.items q.items) (sym late)
       (none_late None old.late.items refl))
       (ap (λ r. notes_view r.items) late_edits) (ap (λ r. notes_view r.items) outside)
@@ -293,8 +290,8 @@ module _ (terms : Terms) (before : List Heard) (h : Heard) (old : ServerEdits)
       subst (AreServerEdits terms new) (sym (events-push before h))
       (edits_more terms earlier told kept_here old new None _ None are
       (asks_as Server is) (has_as Server is) none_said
-      (subst (λ q. Holds [] old.asked.items q.items) (sym by.asked)
-      (none_asked None old.asked.items refl)) by.late_more
+      (subst (λ q. Holds most_requests [] old.asked.items q.items) (sym by.asked)
+      (none_held request_view most_requests None old.asked.items refl)) by.late_more
       (ap (λ r. notes_view r.items) by.late_edits) by.outside_more by.overlaps_more
       by.unsent_more)
 
@@ -388,8 +385,8 @@ edits_called terms before h old new call late are kept reads says late_is asked 
     (edits_more terms events e kept old new None [] late are quiet.asks_none quiet.has_none
     (ap (option_and_then (late_by terms events (calls_with terms events e)
     (place_of events e))) says ∙ late_is)
-    (subst (λ q. Holds [] old.asked.items q.items) (sym asked)
-    (none_asked None old.asked.items refl))
+    (subst (λ q. Holds most_requests [] old.asked.items q.items) (sym asked)
+    (none_held request_view most_requests None old.asked.items refl))
     (subst (λ q. HoldsLate [] old.late.items q.items) (sym held)
     (none_late None old.late.items refl))
     lates (ap (λ r. notes_view r.items) outside) (ap (λ r. notes_view r.items) overlapping)

@@ -1,6 +1,6 @@
 -- The requests of the editor that are answered by edits.
-use Rattle.std.specs.Prelude.{◌≡◌, ◌||◌, ℕ, List, ◌++◌, map, Bool, ◌==◌, if◌then◌else◌}
-use Rattle.std.specs.Prelude.{Option, Some, None, option_and_then, option_map, codes, string_bytes}
+use Rattle.std.specs.Prelude.{◌||◌, ℕ, List, Bool, if◌then◌else◌, Option, Some, None}
+use Rattle.std.specs.Prelude.{option_and_then, option_map, codes}
 use Rattle.std.specs.Str.{bytes_eq}
 use Rattle.serde_json.specs.Data.{Data}
 use Rattle.lsp_docs.specs.Documents.{Terms}
@@ -11,16 +11,8 @@ use Rattle.lsp_types.specs.declared.side.Side.{Side}
 use Rattle.lsp_types.specs.declared.side.Side.TheVariants.{Editor, Server}
 use Rattle.lsp_verdict.specs.Event.{Event, sent_of}
 use Rattle.lsp_replay.specs.declared.heard.EventPlace.{EventPlace}
-use Rattle.lsp_explain.specs.History.{each_kept, last_ones, last_that}
-use Rattle.lsp_explain.specs.declared.notes.edit_requests.EditRequest as code
-
--- the place of its event, and the document whose edits answer it; none where a workspace edit does
-pub record EditRequest : Type 0 where
-  pub place : EventPlace
-  pub document : Option (List ℕ)
-
-abbrev pub edit_request : EventPlace → Option (List ℕ) → EditRequest
-edit_request p document = record { place = p; document = document }
+use Rattle.lsp_explain.specs.History.{each_kept, last_ones}
+use Rattle.lsp_explain.specs.Requests.{Request, request_at}
 
 -- the answer to a request of this method lists edits of the document that it names (LSP 3.17)
 abbrev pub is_formatting : List ℕ → Bool
@@ -34,55 +26,35 @@ is_formatting method =
 abbrev pub is_rename : List ℕ → Bool
 is_rename method = bytes_eq method (codes "textDocument/rename")
 
--- the request of a method with these params, by the event of this place, if it is such a one
-abbrev pub request_with : EventPlace → List ℕ → Option Data → Option EditRequest
+-- the request of a method with these params, by the event of this place, if it is such a one: with
+-- the document whose edits answer it, or with none where a workspace edit does
+abbrev pub request_with : EventPlace → List ℕ → Option Data → Option Request
 request_with p method params =
-    if is_rename method then Some (edit_request p None)
+    if is_rename method then Some (request_at p None)
     else (if is_formatting method
-    then option_map (λ uri. edit_request p (Some uri)) (option_and_then (document_in Editor) params)
+    then option_map (λ uri. request_at p (Some uri)) (option_and_then (document_in Editor) params)
     else None)
 
-abbrev pub request_by : EventPlace → Message → Option EditRequest
+abbrev pub request_by : EventPlace → Message → Option Request
 request_by p (request id method params) = request_with p method params
 request_by p (notification method params) = None
 request_by p (response id reply) = None
 
-abbrev pub request_of : EventPlace → Side → Message → Option EditRequest
+abbrev pub request_of : EventPlace → Side → Message → Option Request
 request_of p Editor m = request_by p m
 request_of p Server m = None
 
-abbrev pub event_request : EventPlace → List Event → Event → Option EditRequest
+abbrev pub event_request : EventPlace → List Event → Event → Option Request
 event_request p before event =
     option_and_then (λ (m : Sent). request_of p m.side m.message) (sent_of event)
 
 -- **those that are kept**, in order
-abbrev pub edit_requests : Terms → List Event → List EditRequest
+abbrev pub edit_requests : Terms → List Event → List Request
 edit_requests terms events = each_kept event_request terms events
 
 -- how many of the last ones are looked at
 abbrev pub most_requests : ℕ
 most_requests = 64
 
-abbrev pub last_requests : Terms → List Event → List EditRequest
+abbrev pub last_requests : Terms → List Event → List Request
 last_requests terms events = last_ones most_requests (edit_requests terms events)
-
-abbrev pub is_by : EventPlace → EditRequest → Bool
-is_by p r = r.place.event == p.event
-
--- the one of these that is the event of this place
-abbrev pub request_at : EventPlace → List EditRequest → Option EditRequest
-request_at p rs = last_that (is_by p) rs
-
--- ---- as they are held
-
-abbrev pub request_view : code.EditRequest → EditRequest
-request_view r = edit_request r.place (option_map string_bytes r.document)
-
-abbrev pub requests_view : List code.EditRequest → List EditRequest
-requests_view held = map request_view held
-
--- these more are held, of which the last ones stay
-abbrev pub Holds : List EditRequest → List code.EditRequest → List code.EditRequest → Type 0
-Holds more old new =
-    (rs : List EditRequest) → requests_view old ≡ last_ones most_requests rs
-    → requests_view new ≡ last_ones most_requests (rs ++ more)

@@ -1,5 +1,6 @@
 -- What the kept events of a session do, each with its place.
-use Rattle.std.specs.Prelude.{ℕ, ◌-◌, Bool, List, Option, drop, length, nat_lt, not, reverse}
+use Rattle.std.specs.Prelude.{◌≡◌, ◌++◌, ℕ, ◌-◌, Bool, List, Option, drop, length, map, nat_lt}
+use Rattle.std.specs.Prelude.{not, reverse}
 use Rattle.std.specs.Prelude.{if◌then◌else◌, Some, None, true, false, is_some, option_and_then}
 use Rattle.std.specs.Prelude.{option_map}
 use Rattle.std.specs.List.{find, take_while, filter_map}
@@ -24,6 +25,12 @@ last_ones n xs = drop (length xs - n) xs
 -- all of these, or all but the first, so that there is room for one more
 abbrev pub with_room : {A : Type 0} → ℕ → List A → List A
 with_room most xs = if nat_lt (length xs) most then xs else drop 1 xs
+
+-- **these more are held of a list**, of which so many stay, the last ones
+abbrev pub HoldsLast : {A B : Type 0} → (A → B) → ℕ → List B → List A → List A → Type 0
+HoldsLast {A} {B} view most more old new =
+    (all : List B) → map view old ≡ last_ones most all
+    → map view new ≡ last_ones most (all ++ more)
 
 -- the last one that passes
 abbrev pub last_that : {A : Type 0} → (A → Bool) → List A → Option A

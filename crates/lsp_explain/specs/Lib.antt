@@ -24,6 +24,7 @@ pub mod Compared
 pub mod DocumentNotes
 pub mod MessageNotes
 pub mod Misfits
+pub mod Requests
 pub mod Refusals
 pub mod Spellings
 pub mod TextEdits

@@ -1,13 +1,13 @@
 -- Which document a message names in its params, and whether it is open.
 use Rattle.std.specs.Prelude.{ℕ, List, Bool, true, false, Option, Some, None, if◌then◌else◌}
-use Rattle.std.specs.Prelude.{codes, is_some, option_and_then}
+use Rattle.std.specs.Prelude.{codes, is_some, option_and_then, option_map}
 use Rattle.std.specs.Str.{bytes_eq}
 use Rattle.serde_json.specs.Data.{Data}
 use Rattle.lsp_docs.specs.Calls.{Call}
 use Rattle.lsp_docs.specs.Documents.{Terms, held}
 use Rattle.lsp_rpc.specs.Message.{Message, request, notification, response}
 use Rattle.lsp_outline.specs.Named.{document_in}
-use Rattle.lsp_outline.specs.Versions.{Versioned, versioned_at}
+use Rattle.lsp_outline.specs.Versions.{Versioned, versioned, versioned_at}
 use Rattle.lsp_session.specs.Sent.{Sent}
 use Rattle.lsp_types.specs.declared.side.Side.{Side}
 use Rattle.lsp_types.specs.declared.side.Side.TheVariants.{Editor, Server}
@@ -28,10 +28,6 @@ diagnoses (request id method params) = false
 diagnoses (notification method params) = is_diagnostics method
 diagnoses (response id reply) = false
 
-abbrev pub may_name : Side → Message → Bool
-may_name Editor m = is_call m
-may_name Server m = diagnoses m
-
 -- ---- which one
 
 -- the params of a message; a response has none
@@ -41,24 +37,20 @@ params_of (notification method params) = params
 params_of (response id reply) = None
 
 -- **the document that a message of this side names**: any of the editor's may name one, and of the
--- server's the diagnostics
+-- server's the diagnostics, with the version of it
+abbrev pub version_named : Side → Message → Option Versioned
+version_named Editor m =
+    option_map (versioned None) (option_and_then (document_in Editor) (params_of m))
+version_named Server m =
+    if diagnoses m then option_and_then versioned_at (params_of m) else None
+
 abbrev pub named_by : Side → Message → Option (List ℕ)
-named_by side m = if may_name side m then option_and_then (document_in side) (params_of m) else None
+named_by side m = option_map (λ (v : Versioned). v.uri) (version_named side m)
 
--- ---- the diagnostics of a message
-
-abbrev pub is_diagnosis : Side → Message → Bool
-is_diagnosis Editor m = false
-is_diagnosis Server m = diagnoses m
-
--- the document that diagnostics of the server name, and the version of it
-abbrev pub diagnosed_in : Side → Message → Option Versioned
-diagnosed_in side m =
-    if is_diagnosis side m then option_and_then versioned_at (params_of m) else None
-
--- **those of an event**
-abbrev pub diagnosed_at : Event → Option Versioned
-diagnosed_at event = option_and_then (λ (m : Sent). diagnosed_in m.side m.message) (sent_of event)
+-- **the one that the message of an event names**
+abbrev pub version_named_at : Event → Option Versioned
+version_named_at event =
+    option_and_then (λ (m : Sent). version_named m.side m.message) (sent_of event)
 
 -- ---- whether it is open
 

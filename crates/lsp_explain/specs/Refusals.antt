@@ -1,7 +1,7 @@
 -- Which requests about documents the server refused for their params.
-use Rattle.std.specs.Prelude.{◌≡◌, ℕ, ℤ, negsuc, nat_lt, List, ◌++◌, ◌==◌, Bool, true, false, map}
+use Rattle.std.specs.Prelude.{◌≡◌, ℕ, ℤ, negsuc, nat_lt, List, ◌++◌, Bool, true, false}
 use Rattle.std.specs.Prelude.{if◌then◌else◌, is_some, Option, Some, None, option_map}
-use Rattle.std.specs.Prelude.{option_and_then, codes, string_bytes}
+use Rattle.std.specs.Prelude.{option_and_then, codes}
 use Rattle.std.specs.Ordering.{int_eq}
 use Rattle.json.specs.Print.{quoted}
 use Rattle.lsp_docs.specs.Documents.{Terms}
@@ -18,23 +18,13 @@ use Rattle.lsp_replay.specs.Lines.{place_of}
 use Rattle.lsp_replay.specs.declared.heard.EventPlace.{EventPlace}
 use Rattle.lsp_explain.specs.Asking.{asked, numbered}
 use Rattle.lsp_explain.specs.DocumentNotes.{DocumentNote, document_note, first_notes, notes_view}
-use Rattle.lsp_explain.specs.History.{each_kept, last_ones, last_that, on_document}
+use Rattle.lsp_explain.specs.History.{each_kept, last_ones, on_document}
 use Rattle.lsp_explain.specs.Marking.{opened, steps}
-use Rattle.lsp_outline.specs.Named.{document_in, named_in}
+use Rattle.lsp_explain.specs.Requests.{Request, request_at, request_at_place, requests_view}
+use Rattle.lsp_outline.specs.Named.{document_in}
 use Rattle.lsp_explain.specs.declared.notes.refusals.Refusals.{Refusals}
-use Rattle.lsp_explain.specs.declared.notes.requests.Named.{Named}
-use Rattle.lsp_explain.specs.declared.notes.requests.Named.TheVariants.{Content, Document}
-use Rattle.lsp_explain.specs.declared.notes.requests.Request as code
 
 -- ---- requests
-
--- a request of the editor: the document that it names, if it names one, and the place of its event
-pub record Request : Type 0 where
-  pub document : Option (List ℕ)
-  pub place : EventPlace
-
-abbrev pub request_at : EventPlace → Option (List ℕ) → Request
-request_at p document = record { document = document; place = p }
 
 -- a message of the editor, the event of this place, if it is a request
 abbrev pub request_by : EventPlace → Message → Option Request
@@ -61,13 +51,6 @@ most_requests = 1024
 
 abbrev pub last_requests : Terms → List Event → List Request
 last_requests terms events = last_ones most_requests (requests terms events)
-
-abbrev pub is_by : EventPlace → Request → Bool
-is_by p r = r.place.event == p.event
-
--- the one of these that is the event of this place
-abbrev pub request_at_place : EventPlace → List Request → Option Request
-request_at_place p rs = last_that (is_by p) rs
 
 -- whether a message is a request
 abbrev pub is_request : Message → Bool
@@ -152,23 +135,6 @@ abbrev pub refusals : Terms → List Event → List DocumentNote
 refusals terms events = first_notes (each_of (refusal_at terms) events)
 
 -- ---- as they are held
-
--- the document that a request of which this is held names
-abbrev pub named_view : Named → Option (List ℕ)
-named_view (Content content) = named_in Editor content.items
-named_view (Document uri) = option_map string_bytes uri
-
-abbrev pub request_view : code.Request → Request
-request_view r = request_at r.place (named_view r.named)
-
-abbrev pub requests_view : List code.Request → List Request
-requests_view held = map request_view held
-
--- these more are held, of which the last ones stay
-abbrev pub Holds : List Request → List code.Request → List code.Request → Type 0
-Holds more old new =
-    (rs : List Request) → requests_view old ≡ last_ones most_requests rs
-    → requests_view new ≡ last_ones most_requests (rs ++ more)
 
 -- **it is what these events leave of it**
 pub record AreRefusals (terms : Terms) (r : Refusals) (events : List Event) : Type 0 where

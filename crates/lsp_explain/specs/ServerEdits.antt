@@ -28,13 +28,14 @@ use Rattle.lsp_verdict.specs.Offences.{kept_of, rule_at, said_at}
 use Rattle.lsp_explain.specs.Asking.{asked, numbered}
 use Rattle.lsp_explain.specs.DocumentNotes.{DocumentNote, document_line, document_note}
 use Rattle.lsp_explain.specs.DocumentNotes.{first_notes, notes_view, with_note}
-use Rattle.lsp_explain.specs.EditRequests.{EditRequest, last_requests, request_at, requests_view}
+use Rattle.lsp_explain.specs.EditRequests.{last_requests}
+use Rattle.lsp_explain.specs.Requests.{Request, request_at_place, requests_view}
 use Rattle.lsp_explain.specs.Told.{agreed_encoding}
 use Rattle.lsp_explain.specs.History.{last_ones, on_document}
 use Rattle.lsp_explain.specs.LateEdits.{HoldsLate, LateAnswer, if_late, lates_view, most_late}
 use Rattle.lsp_explain.specs.LateEdits.{words_since}
 use Rattle.lsp_explain.specs.Marking.{recent, steps}
-use Rattle.lsp_explain.specs.Naming.{diagnosed_in}
+use Rattle.lsp_explain.specs.Naming.{version_named}
 use Rattle.lsp_explain.specs.TextEdits.{DocumentEdits, edits_for, text_edits_at}
 use Rattle.lsp_explain.specs.TextsSince.{first_outside, overlap_each, texts_since}
 use Rattle.lsp_explain.specs.Trails.{IsTrail}
@@ -70,12 +71,12 @@ abbrev pub edited_by : List (List ℕ) → EventPlace → Option (List ℕ) → 
 edited_by uris since (Some uri) d = edited uri since None (text_edits_at d) ∷ []
 edited_by uris since None d = edited_in uris since d
 
-abbrev pub in_reply : List (List ℕ) → EditRequest → Reply → List Edited
+abbrev pub in_reply : List (List ℕ) → Request → Reply → List Edited
 in_reply uris r (result d) = edited_by uris r.place r.document d
 in_reply uris r (error code) = []
 
 -- the answer to this request, if it is one
-abbrev pub in_answer : List (List ℕ) → Option EditRequest → Reply → List Edited
+abbrev pub in_answer : List (List ℕ) → Option Request → Reply → List Edited
 in_answer uris None reply = []
 in_answer uris (Some r) reply = in_reply uris r reply
 
@@ -86,7 +87,7 @@ result_in (notification method params) = None
 result_in (response id (result d)) = Some d
 result_in (response id (error code)) = None
 
-abbrev pub in_whole : List (List ℕ) → Option EditRequest → Message → List Edited
+abbrev pub in_whole : List (List ℕ) → Option Request → Message → List Edited
 in_whole uris r (request id method params) = []
 in_whole uris r (notification method params) = []
 in_whole uris r (response id reply) = in_answer uris r reply
@@ -120,12 +121,12 @@ in_diagnostics p named = option_to_list (option_and_then (diagnosed_as p) named)
 -- ---- which messages
 
 -- the editor's request with this id, which is open after these events, if edits answer it
-abbrev pub answered_request : Terms → List Event → Ident → Option EditRequest
+abbrev pub answered_request : Terms → List Event → Ident → Option Request
 answered_request terms before id =
-    option_and_then (λ p. request_at p (last_requests terms before))
+    option_and_then (λ p. request_at_place p (last_requests terms before))
     (asked Editor id (numbered terms before))
 
-abbrev pub answered : Terms → List Event → Option Ident → Option EditRequest
+abbrev pub answered : Terms → List Event → Option Ident → Option Request
 answered terms before id = option_and_then (answered_request terms before) id
 
 -- of the server's, the event of this place, where documents of these URIs are open
@@ -133,7 +134,7 @@ abbrev pub edited_in_message : Terms → List Event → List (List ℕ) → Even
     → List Edited
 edited_in_message terms before uris p (request id method params) = in_request uris p method params
 edited_in_message terms before uris p (notification method params) =
-    in_diagnostics p (diagnosed_in Server (notification method params))
+    in_diagnostics p (version_named Server (notification method params))
 edited_in_message terms before uris p (response id reply) =
     in_answer uris (answered terms before id) reply
 

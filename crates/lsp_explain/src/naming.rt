@@ -1,18 +1,17 @@
-//! Which messages may name a document in their params, which one diagnostics name, and whether a
-//! document is open.
-ghost use Rattle.std.specs.Prelude.{◌≡◌, IfOk, List, is_some, option_map, string_bytes};
+//! Which document a message names in its params, and whether a document is open.
+ghost use Rattle.std.specs.Prelude.{◌≡◌, IfOk, List, None, is_some, option_map, string_bytes};
 ghost use Rattle.lsp_docs.specs.Calls.{Call as SpecCall};
 ghost use Rattle.lsp_docs.specs.Documents.{held};
 ghost use Rattle.lsp_docs.specs.State.{Stands};
 ghost use Rattle.lsp_explain.specs.Naming as spec;
-ghost use Rattle.lsp_explain.specs.Naming.{diagnosed_at, diagnosed_in, named_by};
-ghost use Rattle.lsp_outline.specs.Versions.{version_view};
+ghost use Rattle.lsp_explain.specs.Naming.{version_named, version_named_at};
+ghost use Rattle.lsp_outline.specs.Versions.{version_view, versioned};
 ghost use Rattle.lsp_replay.specs.Telling.{MaySpeak};
 ghost use Rattle.lsp_rpc.specs.Message.{Message as AMessage};
 ghost use Rattle.lsp_rpc.specs.Outline.{outline};
 ghost use Rattle.lsp_rpc.specs.Reading.{Reads};
 ghost use Rattle.lsp_rpc.specs.View.{message_view};
-ghost use Rattle.lsp_types.specs.declared.side.Side.TheVariants.{Editor};
+ghost use Rattle.lsp_types.specs.declared.side.Side.TheVariants.{Editor, Server};
 ghost use Rattle.lsp_verdict.specs.Event.{Event};
 ghost use Rattle.lsp_verdict.specs.Given.{raw_view};
 ghost use Rattle.lsp_verdict.specs.Placed as placed;
@@ -24,14 +23,14 @@ use lsp_text::Lined;
 use lsp_verdict::Raw;
 use std::alloc::Global;
 
-// ---- diagnostics
+// ---- the document that a message names
 
-/// The document that the diagnostics of an event name, and the version of it. They are read once
-/// for all notes.
+/// The document that the message of an event names: any of the editor's may name one, and of the
+/// server's the diagnostics, with the version of it. It is read once for all notes.
 ///
 /// # Errors
 /// `Memory` where memory was refused.
-pub(crate) fn diagnosed(
+pub(crate) fn named_document(
     alloc: Global,
     raw: Raw<'_>,
     spoken: Option<&Spoken>,
@@ -39,7 +38,7 @@ pub(crate) fn diagnosed(
     ensures { IfOk result (λ named. (kept : List Event) (event : Event)
         → placed.Reads (raw_view raw.entry) event
         → MaySpeak kept event (option_map (λ s. s.now) spoken.entry)
-        → option_map version_view named ≡ diagnosed_at event) }
+        → option_map version_view named ≡ version_named_at event) }
 {
     let Raw::Content { side, content, .. } = raw else {
         return Ok(None);
@@ -47,66 +46,55 @@ pub(crate) fn diagnosed(
     let Some(spoken) = spoken else {
         return Ok(None);
     };
-    if !is_diagnosis(side, &spoken.message) {
+    named_in(alloc, side, &spoken.message, content)
+}
+
+/// The one that a message of this side names, read from this content.
+fn named_in(
+    alloc: Global,
+    side: Side,
+    message: &Message,
+    content: &[u8],
+) -> Result<Option<DocumentVersion>>
+    ensures { IfOk result (λ named. (m : AMessage) → Reads content.now m
+        → outline m ≡ outline (message_view message.now)
+        → option_map version_view named ≡ version_named side m) }
+{
+    match side {
+        Side::Editor => by_editor(alloc, message, content),
+        Side::Server => by_server(alloc, message, content),
+    }
+}
+
+fn by_editor(alloc: Global, message: &Message, content: &[u8]) -> Result<Option<DocumentVersion>>
+    ensures { IfOk result (λ named. (m : AMessage) → Reads content.now m
+        → outline m ≡ outline (message_view message.now)
+        → option_map version_view named ≡ version_named Editor m) }
+{
+    if !is_call(message) {
+        return Ok(None);
+    }
+    let uri = document_of(alloc, Side::Editor, content)?;
+    Ok(without_version(uri))
+}
+
+fn by_server(alloc: Global, message: &Message, content: &[u8]) -> Result<Option<DocumentVersion>>
+    ensures { IfOk result (λ named. (m : AMessage) → Reads content.now m
+        → outline m ≡ outline (message_view message.now)
+        → option_map version_view named ≡ version_named Server m) }
+{
+    if !diagnoses(message) {
         return Ok(None);
     }
     version_of(alloc, content)
 }
 
-fn is_diagnosis(side: Side, message: &Message) -> bool
-    ensures { result ≡ spec.is_diagnosis side (message_view message.now) }
+fn without_version(uri: Option<String>) -> Option<DocumentVersion>
+    ensures { option_map version_view result
+        ≡ option_map (versioned None) (option_map (λ s. string_bytes s) uri) }
 {
-    match side {
-        Side::Editor => false,
-        Side::Server => diagnoses(message),
-    }
-}
-
-// ---- the document that a message names
-
-/// The URI of the document that a message of this side names, read from this content: any of the
-/// editor's may name one, and of the server's the diagnostics, which were read.
-///
-/// # Errors
-/// `Memory` where memory was refused.
-pub(crate) fn uri_of(
-    alloc: Global,
-    side: Side,
-    message: &Message,
-    content: &[u8],
-    diagnosed: &Option<DocumentVersion>,
-) -> Result<Option<String>>
-    ensures { IfOk result (λ uri. (m : AMessage) → Reads content.now m
-        → outline m ≡ outline (message_view message.now)
-        → option_map version_view diagnosed.now ≡ diagnosed_in side m
-        → option_map string_bytes uri ≡ named_by side m) }
-{
-    match side {
-        Side::Editor => uri_in(alloc, message, content),
-        Side::Server => uri_copy(alloc, diagnosed),
-    }
-}
-
-/// The same of a message of the editor.
-fn uri_in(alloc: Global, message: &Message, content: &[u8]) -> Result<Option<String>>
-    ensures { IfOk result (λ uri. (m : AMessage) → Reads content.now m
-        → outline m ≡ outline (message_view message.now)
-        → option_map string_bytes uri ≡ named_by Editor m) }
-{
-    if !is_call(message) {
-        return Ok(None);
-    }
-    Ok(document_of(alloc, Side::Editor, content)?)
-}
-
-fn uri_copy(alloc: Global, named: &Option<DocumentVersion>) -> Result<Option<String>>
-    ensures { IfOk result (λ uri. option_map string_bytes uri
-        ≡ option_map (λ v. v.uri) (option_map version_view named.now)) }
-{
-    match named {
-        Some(named) => Ok(Some(String::from_str(alloc, named.uri.as_str())?)),
-        None => Ok(None),
-    }
+    let uri = uri?;
+    Some(DocumentVersion { uri, version: None })
 }
 
 fn is_call(message: &Message) -> bool
@@ -129,6 +117,17 @@ pub(crate) fn is_diagnostics(method: &str) -> bool
     ensures { result ≡ spec.is_diagnostics method.now }
 {
     method == "textDocument/publishDiagnostics"
+}
+
+/// The URI of the document that is named.
+pub(crate) fn uri_copy(named: &Option<DocumentVersion>) -> Result<Option<String>>
+    ensures { IfOk result (λ uri. option_map (λ s. string_bytes s) uri
+        ≡ option_map (λ v. v.uri) (option_map version_view named.now)) }
+{
+    match named {
+        Some(named) => Ok(Some(named.uri.clone()?)),
+        None => Ok(None),
+    }
 }
 
 // ---- whether it is open

@@ -1,111 +1,69 @@
 //! The last requests of the editor that are answered by edits.
-ghost use Rattle.std.specs.Prelude.{◌≡◌, ◌==◌, ◌∷◌, [], None, OnOk, Some, option_map, string_bytes};
+ghost use Rattle.std.specs.Prelude.{◌≡◌, [], OnOk, Some, option_map};
 ghost use Rattle.std.specs.List.{cons_option};
 ghost use Rattle.lsp_explain.specs.EditRequests as spec;
-ghost use Rattle.lsp_explain.specs.EditRequests.{Holds, edit_request, request_view};
-ghost use Rattle.lsp_explain.specs.EditRequests.{requests_view};
-ghost use Rattle.lsp_explain.specs.History.{last_that};
-ghost use Rattle.lsp_outline.specs.Named.{named_in};
+ghost use Rattle.lsp_explain.specs.EditRequests.{most_requests};
+ghost use Rattle.lsp_explain.specs.Naming.{version_named};
+ghost use Rattle.lsp_explain.specs.Requests.{Holds, request_at};
+ghost use Rattle.lsp_outline.specs.Versions.{version_view};
 ghost use Rattle.lsp_rpc.specs.Message.{Message as AMessage};
 ghost use Rattle.lsp_rpc.specs.Outline.{outline};
-ghost use Rattle.lsp_rpc.specs.Reading.{Reads};
 ghost use Rattle.lsp_rpc.specs.View.{message_view};
 ghost use Rattle.lsp_types.specs.declared.side.Side.TheVariants.{Editor};
 
-use crate::trail::push_within;
-use lsp_outline::document_of;
+use crate::naming::uri_copy;
+use crate::notes::requests::{Request, push_request};
+use lsp_outline::DocumentVersion;
 use lsp_replay::EventPlace;
-use lsp_rpc::{Message, Result, Side};
+use lsp_rpc::{Message, Result};
 use std::collections::VecDeque;
 
 /// How many requests are held at most.
 const MOST_REQUESTS: usize = 64;
 
-/// A request of the editor that is answered by edits.
-#[derive(Drop)]
-pub(crate) struct EditRequest {
-    /// The place of its event.
-    pub(crate) place: EventPlace,
-    /// The document whose edits answer it; none where a workspace edit does.
-    pub(crate) document: Option<String>,
-}
-
-/// Adds a message of the editor, the event of this place, read from this content, if it is such a
-/// request.
+/// Adds a message of the editor, the event of this place, that names this document, if it is such a
+/// request. What is held of it is the document whose edits answer it; none where a workspace edit
+/// does.
 ///
 /// # Errors
 /// `Memory` where memory was refused; nothing is then known of what is held.
 pub(crate) fn note_edit_request(
-    asked: &mut VecDeque<EditRequest>,
+    asked: &mut VecDeque<Request>,
     place: EventPlace,
     message: &Message,
-    content: &[u8],
+    named: &Option<DocumentVersion>,
 ) -> Result<()>
-    ensures { OnOk result ((m : AMessage) → Reads content.now m
-        → outline m ≡ outline (message_view message.now)
-        → Holds (cons_option (spec.request_of place Editor m) []) asked.old.items asked.new.items) }
+    ensures { OnOk result ((m : AMessage) → outline m ≡ outline (message_view message.now)
+        → option_map version_view named.now ≡ version_named Editor m
+        → Holds most_requests (cons_option (spec.request_of place Editor m) []) asked.old.items
+        asked.new.items) }
 {
     let Message::Request { method, .. } = message else {
         return Ok(());
     };
     if is_rename(method.as_str()) {
-        return push(asked, place, None);
+        return push_request(asked, MOST_REQUESTS, place, None);
     }
     if !is_formatting(method.as_str()) {
         return Ok(());
     }
-    note_formatting(asked, place, content)
+    note_formatting(asked, place, named)
 }
 
 /// Adds a request for edits of a document, if it names one.
 fn note_formatting(
-    asked: &mut VecDeque<EditRequest>,
+    asked: &mut VecDeque<Request>,
     place: EventPlace,
-    content: &[u8],
+    named: &Option<DocumentVersion>,
 ) -> Result<()>
-    ensures { OnOk result (Holds (cons_option (option_map (λ uri. edit_request place (Some uri))
-        (named_in Editor content.now)) []) asked.old.items asked.new.items) }
+    ensures { OnOk result (Holds most_requests (cons_option (option_map
+        (λ uri. request_at place (Some uri)) (option_map (λ v. v.uri)
+        (option_map version_view named.now))) []) asked.old.items asked.new.items) }
 {
-    let Some(uri) = document_of(*asked.allocator(), Side::Editor, content)? else {
+    let Some(uri) = uri_copy(named)? else {
         return Ok(());
     };
-    push(asked, place, Some(uri))
-}
-
-/// Adds a request after the others, of which the last ones stay.
-fn push(
-    asked: &mut VecDeque<EditRequest>,
-    place: EventPlace,
-    document: Option<String>,
-) -> Result<()>
-    ensures { OnOk result (Holds
-        (edit_request place (option_map string_bytes document) ∷ []) asked.old.items
-        asked.new.items) }
-{
-    push_within(asked, MOST_REQUESTS, EditRequest { place, document })
-}
-
-/// The one of these requests that is the event of this place.
-pub(crate) fn edit_request_at(
-    asked: &VecDeque<EditRequest>,
-    place: EventPlace,
-) -> Option<&EditRequest>
-    ensures { option_map (λ r. request_view r.now) result
-        ≡ spec.request_at place (requests_view asked.now.items) }
-{
-    let (first, second) = asked.as_slices();
-    last_in(second, place).or(last_in(first, place))
-}
-
-/// The one of one part of them that is.
-fn last_in(asked: &[EditRequest], place: EventPlace) -> Option<&EditRequest>
-    ensures { option_map (λ r. r.now) result
-        ≡ last_that (λ r. r.place.event == place.event) asked.now }
-{
-    asked
-        .iter()
-        .rev()
-        .find(|request| request.place.event == place.event)
+    push_request(asked, MOST_REQUESTS, place, Some(uri))
 }
 
 /// Whether the answer to a request of this method lists edits of the document that it names.

@@ -4,9 +4,10 @@ ghost use Rattle.std.specs.Prelude.{map, option_map, option_to_list};
 ghost use Rattle.lsp_docs.specs.Calls.{Call as SpecCall};
 ghost use Rattle.lsp_docs.specs.Documents.{Terms};
 ghost use Rattle.lsp_docs.specs.State.{Stands};
-ghost use Rattle.lsp_explain.specs.EditRequests.{last_requests, request_view, requests_view};
-ghost use Rattle.lsp_explain.specs.Naming.{diagnosed_in, params_of};
+ghost use Rattle.lsp_explain.specs.EditRequests.{last_requests};
+ghost use Rattle.lsp_explain.specs.Naming.{params_of, version_named};
 ghost use Rattle.lsp_explain.specs.Refusals.{is_request};
+ghost use Rattle.lsp_explain.specs.Requests.{request_view, requests_view};
 ghost use Rattle.lsp_explain.specs.ServerEdits as spec;
 ghost use Rattle.lsp_explain.specs.ServerEdits.{IsNow, edited_view, uris_with};
 ghost use Rattle.lsp_explain.specs.TextEdits.{text_edits_at};
@@ -21,7 +22,7 @@ ghost use Rattle.lsp_types.specs.declared.side.Side.TheVariants.{Server};
 ghost use Rattle.lsp_verdict.specs.Event.{Event};
 ghost use Rattle.serde_json.specs.View.{view};
 
-use crate::notes::edit_requests::{EditRequest, edit_request_at};
+use crate::notes::requests::{Request, request_at};
 use crate::notes::text_edits::{DocumentEdits, edits_for, text_edits_of};
 use crate::trail::Trail;
 use lsp_docs::Docs;
@@ -59,28 +60,28 @@ pub(crate) struct Now<'a> {
 }
 
 /// What a message of the server has for documents, read from this content. These are the last
-/// requests that are answered by edits, and this is what its diagnostics name.
+/// requests that are answered by edits, and this is what the message names.
 ///
 /// # Errors
 /// `Memory` where memory was refused.
 pub(crate) fn edited_by(
     now: Now<'_>,
-    asked: &VecDeque<EditRequest>,
+    asked: &VecDeque<Request>,
     message: &Message,
     content: &[u8],
-    diagnosed: &Option<DocumentVersion>,
+    named: &Option<DocumentVersion>,
 ) -> Result<Vec<Edited>>
     ensures { IfOk result (λ edited. (terms : Terms) (before : List Event) (event : Event)
         (m : AMessage) → IsNow terms before event now.entry
         → requests_view asked.now.items ≡ last_requests terms before
         → Reads content.now m → outline m ≡ outline (message_view message.now)
-        → option_map version_view diagnosed.now ≡ diagnosed_in Server m
+        → option_map version_view named.now ≡ version_named Server m
         → map edited_view edited.items ≡ spec.edited_in_message terms before
         (uris_with terms before event) now.entry.place m) }
 {
     match message {
         Message::Request { method, .. } => in_request(now, method.as_str(), content),
-        Message::Notification { .. } => in_diagnostics(now.docs.alloc(), now.place, diagnosed),
+        Message::Notification { .. } => in_diagnostics(now.docs.alloc(), now.place, named),
         Message::Response { id, .. } => in_response(now, asked, id, content),
     }
 }
@@ -146,7 +147,7 @@ fn edit_of(message: &Message) -> Option<&Value>
 /// What the response with this id, or with none, has.
 fn in_response(
     now: Now<'_>,
-    asked: &VecDeque<EditRequest>,
+    asked: &VecDeque<Request>,
     id: &Option<Id>,
     content: &[u8],
 ) -> Result<Vec<Edited>>
@@ -165,7 +166,7 @@ fn in_response(
 /// What the answer to the request with this id has, if edits answer it.
 fn in_answer(
     now: Now<'_>,
-    asked: &VecDeque<EditRequest>,
+    asked: &VecDeque<Request>,
     id: &Id,
     content: &[u8],
 ) -> Result<Vec<Edited>>
@@ -191,22 +192,18 @@ fn in_answer(
 }
 
 /// The editor's request with this id, if edits answer it.
-fn answered_request<'a>(
-    trail: &Trail,
-    asked: &'a VecDeque<EditRequest>,
-    id: &Id,
-) -> Option<&'a EditRequest>
+fn answered_request<'a>(trail: &Trail, asked: &'a VecDeque<Request>, id: &Id) -> Option<&'a Request>
     ensures { (terms : Terms) (before : List Event) → IsTrail terms trail.now before
         → requests_view asked.now.items ≡ last_requests terms before
         → option_map (λ r. request_view r.now) result
         ≡ spec.answered_request terms before (id_view id.now) }
 {
     let place = trail.said.asked(Side::Editor, id)?;
-    edit_request_at(asked, place)
+    request_at(asked, place)
 }
 
 /// What a message has that answers this request.
-fn in_reply(docs: &Docs<Lined>, request: &EditRequest, message: &Message) -> Result<Vec<Edited>>
+fn in_reply(docs: &Docs<Lined>, request: &Request, message: &Message) -> Result<Vec<Edited>>
     ensures { IfOk result (λ edited. (made : List SpecCall) → Stands docs.now made
         → map edited_view edited.items ≡ spec.in_whole (spec.open_uris docs.now.terms made)
         (Some (request_view request.now)) (message_view message.now)) }
@@ -230,7 +227,7 @@ fn result_of(message: &Message) -> Option<&Value>
 }
 
 /// What the result of this request has: edits of the document that it names, or a workspace edit.
-fn in_result(docs: &Docs<Lined>, request: &EditRequest, value: &Value) -> Result<Vec<Edited>>
+fn in_result(docs: &Docs<Lined>, request: &Request, value: &Value) -> Result<Vec<Edited>>
     ensures { IfOk result (λ edited. (made : List SpecCall) → Stands docs.now made
         → map edited_view edited.items ≡ spec.edited_by (spec.open_uris docs.now.terms made)
         request.now.place (request_view request.now).document (view value.now)) }

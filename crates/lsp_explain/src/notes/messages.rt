@@ -2,9 +2,7 @@
 ghost use Rattle.std.specs.Prelude.{◌≡◌, ◌++◌, ◌∷◌, [], List, None, OnOk, Some, false, option_map};
 ghost use Rattle.lsp_docs.specs.Documents.{Terms};
 ghost use Rattle.lsp_explain.specs.MessageNotes.{AreNoted, served_with};
-ghost use Rattle.lsp_explain.specs.Naming.{diagnosed_at};
-ghost use Rattle.lsp_explain.specs.ServerEdits.{AreServerEdits};
-ghost use Rattle.lsp_explain.specs.Spellings.{AreSpellings};
+ghost use Rattle.lsp_explain.specs.Naming.{version_named_at};
 ghost use Rattle.lsp_explain.specs.Trails.{IsTrail};
 ghost use Rattle.lsp_outline.specs.Versions.{version_view};
 ghost use Rattle.lsp_replay.specs.Telling.{IsSeen, MaySpeak, Stood, kept_before, rule_of};
@@ -13,7 +11,7 @@ ghost use Rattle.lsp_verdict.specs.Given.{raw_view};
 ghost use Rattle.lsp_verdict.specs.Heard.{Heard, heard_events};
 ghost use Rattle.lsp_verdict.specs.Offences.{IsNoted, said_at};
 
-use crate::naming::diagnosed;
+use crate::naming::named_document;
 use crate::notes::{Refusals, ServerEdits, Spellings};
 use crate::trail::Trail;
 use lsp_docs::Call;
@@ -126,43 +124,38 @@ impl MessageNotes {
             → AreNoted terms self.new (heard_events (before ++ h ∷ []))
             (served_with broken served (heard_events (before ++ h ∷ [])))) }
     {
-        self.refusals.note_message(held, trail, raw, spoken)?;
-        let diagnosed = diagnosed(held.docs.alloc(), raw, spoken)?;
-        self.note_diagnosed(held, trail, raw, spoken, broken, &diagnosed)
+        let named = named_document(held.docs.alloc(), raw, spoken)?;
+        self.note_named(held, trail, raw, spoken, broken, &named)
     }
 
-    /// Notes which other spellings it names and what the server sends, where this is what its
-    /// diagnostics name.
-    fn note_diagnosed(
+    /// Notes a message that names this document, and says nothing of one.
+    fn note_named(
         &mut self,
         held: &Events<Lined>,
         trail: &Trail,
         raw: Raw<'_>,
         spoken: Option<&Spoken>,
         broken: bool,
-        diagnosed: &Option<DocumentVersion>,
+        named: &Option<DocumentVersion>,
     ) -> Result<()>
-        ensures refusals { self.new.refusals ≡ self.old.refusals }
-        ensures noted { OnOk result ((terms : Terms) (before : List Heard) (h : Heard)
+        ensures { OnOk result ((terms : Terms) (before : List Heard) (h : Heard)
             (served : List Event) → IsTrail terms trail.now (heard_events before)
-            → AreSpellings terms self.old.spellings (heard_events before)
-            → AreServerEdits terms self.old.server_edits served
+            → AreNoted terms self.old (heard_events before) served
             → (broken ≡ false → served ≡ heard_events before)
-            → option_map version_view diagnosed.now ≡ diagnosed_at h.note.event
+            → option_map version_view named.now ≡ version_named_at h.note.event
             → Stood terms held.now.session held.now.docs held.now.counts (before ++ h ∷ [])
             → rule_of terms before h ≡ None → IsNoted (raw_view raw.entry) h.note
             → MaySpeak (kept_before terms before) h.note.event (option_map (λ s. s.now) spoken.entry)
             → said_at terms (heard_events before) h.note.event ≡ None
-            → AreSpellings terms self.new.spellings (heard_events (before ++ h ∷ []))
-            × AreServerEdits terms self.new.server_edits
+            → AreNoted terms self.new (heard_events (before ++ h ∷ []))
             (served_with broken served (heard_events (before ++ h ∷ [])))) }
     {
-        self.spellings
-            .note_message(held, trail, raw, spoken, diagnosed)?;
+        self.refusals.note_message(held, trail, raw, spoken, named)?;
+        self.spellings.note_message(held, trail, raw, named)?;
         if broken {
             return Ok(());
         }
         self.server_edits
-            .note_message(held, trail, raw, spoken, diagnosed)
+            .note_message(held, trail, raw, spoken, named)
     }
 }

@@ -1,26 +1,34 @@
 //! Which requests about documents the server refused for their params.
 ghost use Rattle.std.specs.Prelude.{◌≡◌, ◌++◌, ◌∷◌, [], List, None, IfOk, OnOk, if◌then◌else◌};
 ghost use Rattle.std.specs.Prelude.{Some, map, option_and_then, option_map, string_bytes};
+ghost use Rattle.std.specs.List.{cons_option};
 ghost use Rattle.std.specs.Ordering.{int_eq};
 ghost use Rattle.lsp_docs.specs.Documents.{Terms};
 ghost use Rattle.lsp_explain.specs.DocumentNotes.{document_line, notes_view, with_note};
 ghost use Rattle.lsp_explain.specs.Marking.{AreMarks};
+ghost use Rattle.lsp_explain.specs.Naming.{version_named, version_named_at};
 ghost use Rattle.lsp_explain.specs.Refusals as spec;
-ghost use Rattle.lsp_explain.specs.Refusals.{AreRefusals, invalid_params, request_view};
-ghost use Rattle.lsp_explain.specs.Refusals.{requests_view};
+ghost use Rattle.lsp_explain.specs.Refusals.{AreRefusals, invalid_params, most_requests};
+ghost use Rattle.lsp_explain.specs.Requests.{Holds, request_view, requests_view};
 ghost use Rattle.lsp_explain.specs.Trails.{IsTrail};
+ghost use Rattle.lsp_outline.specs.Versions.{version_view};
 ghost use Rattle.lsp_replay.specs.Telling.{IsSeen, MaySpeak, Stood, kept_before, rule_of};
 ghost use Rattle.lsp_rpc.specs.Ident.{id_view};
+ghost use Rattle.lsp_rpc.specs.Message.{Message as AMessage};
+ghost use Rattle.lsp_rpc.specs.Outline.{outline};
 ghost use Rattle.lsp_rpc.specs.View.{answer_view, message_view};
+ghost use Rattle.lsp_types.specs.declared.side.Side.TheVariants.{Editor};
 ghost use Rattle.lsp_verdict.specs.Event.{Event};
 ghost use Rattle.lsp_verdict.specs.Given.{raw_view};
 ghost use Rattle.lsp_verdict.specs.Heard.{Heard, heard_events};
 ghost use Rattle.lsp_verdict.specs.Offences.{IsNoted, said_at};
 
+use crate::naming::uri_copy;
 use crate::notes::document_notes::{DocumentNote, is_noted, push_lines, push_note};
-use crate::notes::requests::{Request, note_request, request_at};
+use crate::notes::requests::{Request, push_request, request_at};
 use crate::trail::{Marks, Trail};
 use lsp_facts::Facts;
+use lsp_outline::DocumentVersion;
 use lsp_replay::{EventPlace, Events, Seen};
 use lsp_rpc::{Answer, Id, Message, Result, Side, Spoken, push_quoted};
 use lsp_text::Lined;
@@ -31,6 +39,9 @@ use std::collections::VecDeque;
 /// The code of an error that says that a request's params are not valid (JSON-RPC 2.0, section
 /// 5.1).
 const INVALID_PARAMS: i32 = -32602;
+
+/// How many requests are held at most.
+const MOST_REQUESTS: usize = 1024;
 
 /// The last requests of the editor, and of each document the first answer that refused one about it
 /// for its params, though the document was open all the time.
@@ -54,7 +65,7 @@ impl Refusals {
     }
 
     /// Notes a message that is kept and says nothing of a document. The trail is of the events
-    /// before it.
+    /// before it, and this is what the message names.
     ///
     /// # Errors
     /// `Memory` where memory was refused; nothing is then known of what is held.
@@ -64,17 +75,19 @@ impl Refusals {
         trail: &Trail,
         raw: Raw<'_>,
         spoken: Option<&Spoken>,
+        named: &Option<DocumentVersion>,
     ) -> Result<()>
         ensures { OnOk result ((terms : Terms) (before : List Heard) (h : Heard)
             → IsTrail terms trail.now (heard_events before)
             → AreRefusals terms self.old (heard_events before)
+            → option_map version_view named.now ≡ version_named_at h.note.event
             → Stood terms held.now.session held.now.docs held.now.counts (before ++ h ∷ [])
             → rule_of terms before h ≡ None → IsNoted (raw_view raw.entry) h.note
             → MaySpeak (kept_before terms before) h.note.event (option_map (λ s. s.now) spoken.entry)
             → said_at terms (heard_events before) h.note.event ≡ None
             → AreRefusals terms self.new (heard_events (before ++ h ∷ []))) }
     {
-        let Raw::Content { side, content, .. } = raw else {
+        let Raw::Content { side, .. } = raw else {
             return Ok(());
         };
         let Some(spoken) = spoken else {
@@ -82,28 +95,17 @@ impl Refusals {
         };
         let place = EventPlace::last(&held.counts, who_of(side));
         match side {
-            Side::Editor => note_request(&mut self.asked, place, &spoken.message, content),
-            Side::Server => self.note_answer(trail, place, &spoken.message),
+            Side::Editor => note_request(&mut self.asked, place, &spoken.message, named),
+            Side::Server => {
+                note_answer(
+                    &mut self.refused,
+                    &self.asked,
+                    trail,
+                    place,
+                    &spoken.message,
+                )
+            }
         }
-    }
-
-    /// Notes a message of the server, the event of this place, if it refuses a request about a
-    /// document. The trail is of the events before it.
-    fn note_answer(&mut self, trail: &Trail, place: EventPlace, message: &Message) -> Result<()>
-        ensures asked { self.new.asked ≡ self.old.asked }
-        ensures refused { OnOk result ((terms : Terms) (before : List Event)
-            → IsTrail terms trail.now before
-            → requests_view self.old.asked.items ≡ spec.last_requests terms before
-            → notes_view self.new.refused.items ≡ with_note (notes_view self.old.refused.items)
-            (spec.refusal_note terms before place (spec.refused_id (message_view message.now)))) }
-    {
-        let Some(request) = refused_request(&self.asked, trail, message) else {
-            return Ok(());
-        };
-        let Some(uri) = open_document(&trail.marks, request)? else {
-            return Ok(());
-        };
-        note_refusal(&mut self.refused, place, uri.as_str())
     }
 
     /// Adds the lines of the notes.
@@ -116,6 +118,56 @@ impl Refusals {
     {
         push_lines(notes, self.refused.as_slice())
     }
+}
+
+/// Adds a message of the editor, the event of this place, that names this document, if it is a
+/// request.
+fn note_request(
+    asked: &mut VecDeque<Request>,
+    place: EventPlace,
+    message: &Message,
+    named: &Option<DocumentVersion>,
+) -> Result<()>
+    ensures { OnOk result ((m : AMessage) → outline m ≡ outline (message_view message.now)
+        → option_map version_view named.now ≡ version_named Editor m
+        → Holds most_requests (cons_option (spec.request_of place Editor m) []) asked.old.items
+        asked.new.items) }
+{
+    if !is_request(message) {
+        return Ok(());
+    }
+    let document = uri_copy(named)?;
+    push_request(asked, MOST_REQUESTS, place, document)
+}
+
+fn is_request(message: &Message) -> bool
+    ensures { result ≡ spec.is_request (message_view message.now) }
+{
+    matches!(message, Message::Request { .. })
+}
+
+/// Notes a message of the server, the event of this place, if it refuses one of these requests
+/// about a document. The trail is of the events before it.
+fn note_answer(
+    refused: &mut Vec<DocumentNote>,
+    asked: &VecDeque<Request>,
+    trail: &Trail,
+    place: EventPlace,
+    message: &Message,
+) -> Result<()>
+    ensures { OnOk result ((terms : Terms) (before : List Event)
+        → IsTrail terms trail.now before
+        → requests_view asked.now.items ≡ spec.last_requests terms before
+        → notes_view refused.new.items ≡ with_note (notes_view refused.old.items)
+        (spec.refusal_note terms before place (spec.refused_id (message_view message.now)))) }
+{
+    let Some(request) = refused_request(asked, trail, message) else {
+        return Ok(());
+    };
+    let Some(uri) = open_document(&trail.marks, request) else {
+        return Ok(());
+    };
+    note_refusal(refused, place, uri)
 }
 
 /// Notes that the event of this place refuses a request about the document of this URI.
@@ -160,18 +212,26 @@ fn refused_request<'a>(
 }
 
 /// The document that a request names, if it is open from the request on.
-fn open_document(marks: &Marks, request: &Request) -> Result<Option<String>>
-    ensures { IfOk result (λ uri. (terms : Terms) (before : List Event)
-        → AreMarks terms marks.now.map.entries before
-        → option_map string_bytes uri ≡ spec.open_document terms before (request_view request.now)) }
+fn open_document<'a>(marks: &Marks, request: &'a Request) -> Option<&'a str>
+    ensures { (terms : Terms) (before : List Event) → AreMarks terms marks.now.map.entries before
+        → option_map (λ uri. uri.now) result
+        ≡ spec.open_document terms before (request_view request.now) }
 {
-    let Some(uri) = request.document()? else {
-        return Ok(None);
-    };
-    if is_opened_before(marks.opened(uri.as_str()), request.place) {
-        return Ok(Some(uri));
+    match &request.document {
+        Some(uri) => if_open_since(marks, request.place, uri.as_str()),
+        None => None,
     }
-    Ok(None)
+}
+
+fn if_open_since<'a>(marks: &Marks, place: EventPlace, uri: &'a str) -> Option<&'a str>
+    ensures { (terms : Terms) (before : List Event) → AreMarks terms marks.now.map.entries before
+        → option_map (λ uri. uri.now) result ≡ spec.if_open_since terms before place uri.now }
+{
+    if is_opened_before(marks.opened(uri), place) {
+        Some(uri)
+    } else {
+        None
+    }
 }
 
 fn is_opened_before(opened: Option<EventPlace>, place: EventPlace) -> bool

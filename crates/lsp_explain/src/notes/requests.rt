@@ -1,84 +1,40 @@
-//! The last requests of the editor, and which documents they name.
-ghost use Rattle.std.specs.Prelude.{◌≡◌, ◌==◌, [], IfOk, OnOk, option_map, string_bytes};
-ghost use Rattle.std.specs.List.{cons_option};
+//! The last requests of the editor, with the documents that they name.
+ghost use Rattle.std.specs.Prelude.{◌≡◌, ◌==◌, ◌<◌, ◌∷◌, [], OnOk, option_map, string_bytes};
 ghost use Rattle.lsp_explain.specs.History.{last_that};
-ghost use Rattle.lsp_outline.specs.Named.{named_in};
-ghost use Rattle.lsp_explain.specs.Refusals as spec;
-ghost use Rattle.lsp_explain.specs.Refusals.{Holds, named_view, request_view, requests_view};
-ghost use Rattle.lsp_rpc.specs.Message.{Message as AMessage};
-ghost use Rattle.lsp_rpc.specs.Outline.{outline};
-ghost use Rattle.lsp_rpc.specs.Reading.{Reads};
-ghost use Rattle.lsp_rpc.specs.View.{message_view};
-ghost use Rattle.lsp_types.specs.declared.side.Side.TheVariants.{Editor};
+ghost use Rattle.lsp_explain.specs.Requests as spec;
+ghost use Rattle.lsp_explain.specs.Requests.{Holds, request_view, requests_view};
 
 use crate::trail::push_within;
-use lsp_outline::document_of;
 use lsp_replay::EventPlace;
-use lsp_rpc::{Message, Result, Side};
-use std::alloc::Global;
+use lsp_rpc::Result;
 use std::collections::VecDeque;
-
-/// How many requests are held at most.
-const MOST_REQUESTS: usize = 1024;
-
-/// How many bytes a content has at most that is held.
-const MOST_BYTES: usize = 16_384;
-
-/// What is held of a request, to tell which document it names.
-#[derive(Drop)]
-pub(crate) enum Named {
-    /// Its content. It is read if the request is refused, and few are.
-    Content(Vec<u8>),
-    /// The document, if it names one: the content was too long to be held.
-    Document(Option<String>),
-}
 
 /// A request of the editor.
 #[derive(Drop)]
 pub(crate) struct Request {
-    named: Named,
+    /// The URI of the document that it names, if it names one.
+    pub(crate) document: Option<String>,
     /// The place of its event.
     pub(crate) place: EventPlace,
 }
 
-impl Request {
-    /// The URI of the document that it names.
-    ///
-    /// # Errors
-    /// `Memory` where memory was refused.
-    pub(crate) fn document(&self) -> Result<Option<String>>
-        ensures { IfOk result (λ uri. option_map string_bytes uri
-            ≡ (request_view self.now).document) }
-    {
-        match &self.named {
-            Named::Content(content) => {
-                document_of(*content.allocator(), Side::Editor, content.as_slice())
-            }
-            Named::Document(uri) => copy_of(uri),
-        }
-    }
-}
-
-/// Adds a message of the editor, the event of this place, read from this content, if it is a
-/// request.
+/// Adds the request that is the event of this place after the others, of which so many stay, the
+/// last ones.
 ///
 /// # Errors
 /// `Memory` where memory was refused; nothing is then known of what is held.
-pub(crate) fn note_request(
+pub(crate) fn push_request(
     asked: &mut VecDeque<Request>,
+    most: usize,
     place: EventPlace,
-    message: &Message,
-    content: &[u8],
+    document: Option<String>,
 ) -> Result<()>
-    ensures { OnOk result ((m : AMessage) → Reads content.now m
-        → outline m ≡ outline (message_view message.now)
-        → Holds (cons_option (spec.request_of place Editor m) []) asked.old.items asked.new.items) }
+    requires { 0 < most }
+    ensures { OnOk result (Holds most
+        (spec.request_at place (option_map (λ s. string_bytes s) document) ∷ [])
+        asked.old.items asked.new.items) }
 {
-    if !is_request(message) {
-        return Ok(());
-    }
-    let named = held(*asked.allocator(), content)?;
-    push_within(asked, MOST_REQUESTS, Request { named, place })
+    push_within(asked, most, Request { document, place })
 }
 
 /// The one of these requests that is the event of this place.
@@ -99,30 +55,4 @@ fn last_in(asked: &[Request], place: EventPlace) -> Option<&Request>
         .iter()
         .rev()
         .find(|request| request.place.event == place.event)
-}
-
-fn is_request(message: &Message) -> bool
-    ensures { result ≡ spec.is_request (message_view message.now) }
-{
-    matches!(message, Message::Request { .. })
-}
-
-/// What is held of the request of a content.
-fn held(alloc: Global, content: &[u8]) -> Result<Named>
-    ensures { IfOk result (λ named. named_view named ≡ named_in Editor content.now) }
-{
-    if content.len() > MOST_BYTES {
-        let uri = document_of(alloc, Side::Editor, content)?;
-        return Ok(Named::Document(uri));
-    }
-    Ok(Named::Content(Vec::from_slice(alloc, content)?))
-}
-
-fn copy_of(uri: &Option<String>) -> Result<Option<String>>
-    ensures { IfOk result (λ copy. option_map string_bytes copy ≡ option_map string_bytes uri.now) }
-{
-    match uri {
-        Some(uri) => Ok(Some(uri.clone()?)),
-        None => Ok(None),
-    }
 }

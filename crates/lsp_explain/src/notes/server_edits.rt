@@ -11,7 +11,7 @@ ghost use Rattle.lsp_explain.specs.AllNotes.{beyond, counts, server_kinds, serve
 ghost use Rattle.lsp_explain.specs.DocumentNotes.{document_note, notes_view, with_note};
 ghost use Rattle.lsp_explain.specs.History.{on_document};
 ghost use Rattle.lsp_explain.specs.LateEdits.{HoldsLate, lates_view};
-ghost use Rattle.lsp_explain.specs.Naming.{diagnosed_at, diagnosed_in};
+ghost use Rattle.lsp_explain.specs.Naming.{version_named, version_named_at};
 ghost use Rattle.lsp_explain.specs.ServerEdits as spec;
 ghost use Rattle.lsp_explain.specs.ServerEdits.{AreServerEdits, IsNow, NotesBy, edited_view};
 ghost use Rattle.lsp_explain.specs.ServerEdits.{last_answers};
@@ -33,9 +33,10 @@ ghost use Rattle.lsp_verdict.specs.Heard.{Heard, heard_events};
 ghost use Rattle.lsp_verdict.specs.Offences.{IsNoted, said_at};
 
 use crate::notes::document_notes::{DocumentNote, is_noted, push_beyond, push_lines, push_note};
-use crate::notes::edit_requests::{EditRequest, note_edit_request};
+use crate::notes::edit_requests::note_edit_request;
 use crate::notes::edited::{Edited, Now, edited_by};
 use crate::notes::late_edits::{LateAnswer, note_late, words_since};
+use crate::notes::requests::Request;
 use crate::notes::texts_since::{first_outside, overlap_each, texts_since};
 use crate::notes::unsent::words_if_unsent;
 use crate::trail::Trail;
@@ -80,7 +81,7 @@ impl ServerCounts {
 /// It stands for the events of a session.
 #[derive(Drop)]
 pub(crate) struct ServerEdits {
-    asked: VecDeque<EditRequest>,
+    asked: VecDeque<Request>,
     late: VecDeque<LateAnswer>,
     late_edits: Vec<DocumentNote>,
     outside: Vec<DocumentNote>,
@@ -169,7 +170,7 @@ impl ServerEdits {
     }
 
     /// Notes a message that is kept and says nothing of a document. The trail is of the events
-    /// before it, and this is what its diagnostics name.
+    /// before it, and this is what the message names.
     ///
     /// # Errors
     /// `Memory` where memory was refused; nothing is then known of what is held.
@@ -179,12 +180,12 @@ impl ServerEdits {
         trail: &Trail,
         raw: Raw<'_>,
         spoken: Option<&Spoken>,
-        diagnosed: &Option<DocumentVersion>,
+        named: &Option<DocumentVersion>,
     ) -> Result<()>
         ensures { OnOk result ((terms : Terms) (before : List Heard) (h : Heard)
             → IsTrail terms trail.now (heard_events before)
             → AreServerEdits terms self.old (heard_events before)
-            → option_map version_view diagnosed.now ≡ diagnosed_at h.note.event
+            → option_map version_view named.now ≡ version_named_at h.note.event
             → Stood terms held.now.session held.now.docs held.now.counts (before ++ h ∷ [])
             → rule_of terms before h ≡ None → IsNoted (raw_view raw.entry) h.note
             → MaySpeak (kept_before terms before) h.note.event (option_map (λ s. s.now) spoken.entry)
@@ -199,32 +200,32 @@ impl ServerEdits {
         };
         let place = EventPlace::last(&held.counts, who_of(side));
         match side {
-            Side::Editor => note_edit_request(&mut self.asked, place, &spoken.message, content),
+            Side::Editor => note_edit_request(&mut self.asked, place, &spoken.message, named),
             Side::Server => {
                 let now = now_at(held, trail, place);
-                self.note_server(now, &spoken.message, content, diagnosed)
+                self.note_server(now, &spoken.message, content, named)
             }
         }
     }
 
     /// Notes what a message of the server has for documents, read from this content. This is what
-    /// its diagnostics name.
+    /// it names.
     fn note_server(
         &mut self,
         now: Now<'_>,
         message: &Message,
         content: &[u8],
-        diagnosed: &Option<DocumentVersion>,
+        named: &Option<DocumentVersion>,
     ) -> Result<()>
         ensures { OnOk result ((terms : Terms) (before : List Event) (event : Event)
             (m : AMessage) → IsNow terms before event now.entry
             → AreServerEdits terms self.old before → Reads content.now m
             → outline m ≡ outline (message_view message.now)
-            → option_map version_view diagnosed.now ≡ diagnosed_in Server m
+            → option_map version_view named.now ≡ version_named Server m
             → NotesBy terms before event (spec.edited_in_message terms before
             (spec.uris_with terms before event) (place_of before event) m) self.old self.new) }
     {
-        let edited = edited_by(now, &self.asked, message, content, diagnosed)?;
+        let edited = edited_by(now, &self.asked, message, content, named)?;
         self.note_all(now, edited.as_slice())
     }
 

@@ -8,19 +8,19 @@ ghost use Rattle.lsp_docs.specs.Documents.{Terms};
 ghost use Rattle.lsp_docs.specs.State.{Stands};
 ghost use Rattle.lsp_docs.specs.Taken.{call_view};
 ghost use Rattle.lsp_explain.specs.DocumentNotes.{document_line, notes_view, with_note};
-ghost use Rattle.lsp_explain.specs.Naming.{diagnosed_at};
+ghost use Rattle.lsp_explain.specs.Naming.{version_named_at};
 ghost use Rattle.lsp_explain.specs.Openings.{AreOpenings, on_view, ons_view};
 ghost use Rattle.lsp_explain.specs.Spellings as spec;
 ghost use Rattle.lsp_explain.specs.Spellings.{AreSpellings, HoldsOthers, IsSought};
 ghost use Rattle.lsp_explain.specs.Trails.{IsTrail};
 ghost use Rattle.lsp_outline.specs.Versions.{version_view};
-ghost use Rattle.lsp_replay.specs.Telling.{IsSeen, MaySpeak, Stood, kept_before, rule_of};
+ghost use Rattle.lsp_replay.specs.Telling.{IsSeen, Stood, rule_of};
 ghost use Rattle.lsp_verdict.specs.Event.{Event, calls};
 ghost use Rattle.lsp_verdict.specs.Heard.{Heard, heard_events};
 ghost use Rattle.lsp_verdict.specs.Given.{raw_view};
 ghost use Rattle.lsp_verdict.specs.Offences.{IsNoted, kept_of, said_at};
 
-use crate::naming::{if_unopened, uri_of};
+use crate::naming::if_unopened;
 use crate::notes::document_notes::{DocumentNote, is_noted, push_lines, push_note};
 use crate::spelled::{is_spelled, stands_open};
 use crate::trail::{DocumentEvent, Openings, Trail};
@@ -28,10 +28,10 @@ use lsp_docs::{Call, Docs};
 use lsp_facts::Facts;
 use lsp_outline::DocumentVersion;
 use lsp_replay::{EventPlace, Events, Seen};
-use lsp_rpc::{Result, Spoken, push_quoted};
+use lsp_rpc::{Result, push_quoted};
 use lsp_survey::folded;
 use lsp_text::Lined;
-use lsp_verdict::{Raw, who_of};
+use lsp_verdict::Raw;
 use std::alloc::Global;
 
 /// Of each URI the first message that names it, though no document of that URI is open, while one
@@ -90,7 +90,7 @@ impl Spellings {
     }
 
     /// Notes a message that is kept and says nothing of a document. The trail is of the events
-    /// before it, and this is what its diagnostics name.
+    /// before it, and this is what the message names.
     ///
     /// # Errors
     /// `Memory` where memory was refused; nothing is then known of what is held.
@@ -99,33 +99,24 @@ impl Spellings {
         held: &Events<Lined>,
         trail: &Trail,
         raw: Raw<'_>,
-        spoken: Option<&Spoken>,
-        diagnosed: &Option<DocumentVersion>,
+        named: &Option<DocumentVersion>,
     ) -> Result<()>
         ensures { OnOk result ((terms : Terms) (before : List Heard) (h : Heard)
             → IsTrail terms trail.now (heard_events before)
             → AreSpellings terms self.old (heard_events before)
-            → option_map version_view diagnosed.now ≡ diagnosed_at h.note.event
+            → option_map version_view named.now ≡ version_named_at h.note.event
             → Stood terms held.now.session held.now.docs held.now.counts (before ++ h ∷ [])
             → rule_of terms before h ≡ None → IsNoted (raw_view raw.entry) h.note
-            → MaySpeak (kept_before terms before) h.note.event (option_map (λ s. s.now) spoken.entry)
             → said_at terms (heard_events before) h.note.event ≡ None
             → AreSpellings terms self.new (heard_events (before ++ h ∷ []))) }
     {
-        let Raw::Content { side, content, .. } = raw else {
+        let Some(named) = named else {
             return Ok(());
         };
-        let Some(spoken) = spoken else {
+        let Some(unopened) = if_unopened(&held.docs, named.uri.as_str()) else {
             return Ok(());
         };
-        let alloc = held.docs.alloc();
-        let Some(uri) = uri_of(alloc, side, &spoken.message, content, diagnosed)? else {
-            return Ok(());
-        };
-        let Some(unopened) = if_unopened(&held.docs, uri.as_str()) else {
-            return Ok(());
-        };
-        let place = EventPlace::last(&held.counts, who_of(side));
+        let place = EventPlace::last(&held.counts, raw.who());
         self.note(&held.docs, &trail.openings, place, unopened)
     }
 

@@ -4,7 +4,7 @@ use Rattle.std.proofs.lemmas.Result.{IfOk-weaker}
 use Rattle.lsp_rpc.specs.Reading.{BreaksRule, IsRefusal}
 use Rattle.lsp_rpc.specs.View.{message_view}
 use Rattle.lsp_verdict.proofs.Below.{not_both, one_message}
-use Rattle.lsp_explain.specs.EditRequests.{request_view}
+use Rattle.lsp_explain.specs.Requests.{request_view}
 use Rattle.lsp_explain.specs.ServerEdits.{calls_with, edited_view, in_whole, open_uris, uris_with}
 use Rattle.lsp_explain.proofs.EditsByKind.{none_answered}
 use Rattle.lsp_explain.proofs.notes.edited.in_answer.Goals as goal

@@ -1,6 +1,7 @@
 use Rattle.std.specs.Prelude.{option_and_then}
 use Rattle.std.proofs.Common.{◌∙◌, ap}
-use Rattle.lsp_explain.specs.Refusals.{last_requests, refused_request, request_at_place}
+use Rattle.lsp_explain.specs.Refusals.{last_requests, refused_request}
+use Rattle.lsp_explain.specs.Requests.{request_at_place}
 use Rattle.lsp_explain.proofs.notes.refusals.refused_request.Goals as goal
 
 -- it refuses nothing

@@ -8,7 +8,7 @@ use Rattle.lsp_verdict.specs.Given.{AreCounts}
 use Rattle.lsp_verdict.specs.Heard.{heard_events}
 use Rattle.lsp_verdict.specs.Offences.{kept_of}
 use Rattle.lsp_verdict.specs.Placed.{content}
-use Rattle.lsp_explain.specs.Naming.{diagnosed_in}
+use Rattle.lsp_explain.specs.Naming.{version_named}
 use Rattle.lsp_explain.proofs.NamedDocuments.{said_so}
 use Rattle.lsp_explain.proofs.ServerNoting.{edits_asked, edits_sent, own_reads}
 use Rattle.lsp_explain.proofs.Trails.{is_message, no_content}
@@ -35,8 +35,12 @@ returns-in-Editor c = on_ok_weaker c.note_edit_request.result
     (subst (AreCounts c.args.held.now.counts) (events-push before h) stood.counted)
     (c.who_of.ensures ∙ sym (whose_read (content side bytes) h.note.event reads)) in
     let heard = rw c.in-Some.is at spoken in
+    let own = said_so side bytes h.note.event reads heard.1.sent heard.1.is in
     edits_asked terms before h c.args.self.now are kept says c.last-place.result at side heard.0
-    bytes c.in-Some.spoken.now reads heard.1 _ c.in-Editor.is holds refl refl refl refl refl)
+    bytes c.in-Some.spoken.now reads heard.1 _ c.in-Editor.is
+    (holds heard.1.sent.message heard.1.says
+    (named ∙ own.1 ∙ ap (λ s. version_named s heard.1.sent.message) c.in-Editor.is))
+    refl refl refl refl refl)
     c.note_edit_request.ensures
 
 pub returns-in-Server : goal.returns-in-Server
@@ -60,5 +64,5 @@ returns-in-Server c = on_ok_weaker c.note_server.result
     heard.0 bytes c.in-Some.spoken.now reads heard.1 _ c.in-Server.is
     (sent terms events event heard.1.sent.message now are message heard.1.says
     (named ∙ (said_so side bytes event reads heard.1.sent heard.1.is).1
-    ∙ ap (λ s. diagnosed_in s heard.1.sent.message) c.in-Server.is)))
+    ∙ ap (λ s. version_named s heard.1.sent.message) c.in-Server.is)))
     c.note_server.ensures
