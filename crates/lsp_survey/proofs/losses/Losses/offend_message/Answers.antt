@@ -1,5 +1,5 @@
 use Rattle.std.specs.Prelude.{◌||◌, ◌==◌, option_map}
-use Rattle.std.proofs.Common.{◌∙◌, Some, None, false, ap, subst}
+use Rattle.std.proofs.Common.{◌∙◌, Some, None, false, ap, subst, sym}
 use Rattle.lsp_docs.specs.Documents.{Terms}
 use Rattle.lsp_docs.specs.Taken.{call_view}
 use Rattle.lsp_rpc.specs.View.{message_view}
