@@ -5,6 +5,7 @@ use Rattle.std.proofs.lemmas.Int.{to_z-of_z}
 use Rattle.std.proofs.lemmas.Result.{on_ok_weaker}
 use Rattle.lsp_text.specs.Changes.{edits_of}
 use Rattle.lsp_explain.specs.LastChange.{last_change}
+use Rattle.lsp_explain.specs.Marking.{is_set_to}
 use Rattle.lsp_explain.specs.Traced.{precedes_facts, same_facts}
 use Rattle.lsp_explain.proofs.unrisen.push_setter.Goals as goal
 
@@ -18,5 +19,8 @@ returns c = on_ok_weaker c.push_precedes.result (λ said terms before are.
     (to_z-of_z w32 c.args.version c.ranges.version)
     ∙ ap (λ (b : Bool). old ++ (if b
     then same_facts setter.place (edits_of c.args.changes.now) (last_change terms before)
-    else precedes_facts c.args.version earlier setter)) (sym c.if-is_set_to.false ∙ c.is_set_to.ensures))
-    c.push_precedes.ensures
+    else precedes_facts c.args.version earlier setter)) (sym c.if-is_set_to.false ∙ c.is_set_to.ensures)
+    ∙ ap (λ number. old ++ (if is_set_to number setter
+    then same_facts setter.place (edits_of c.args.changes.now) (last_change terms before)
+    else precedes_facts c.args.version earlier setter))
+    (to_z-of_z w32 c.args.version c.ranges.version)) c.push_precedes.ensures
