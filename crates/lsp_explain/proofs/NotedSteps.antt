@@ -166,7 +166,7 @@ broken-push terms before h =
 abbrev next_of : Bool → Heard → List Heard
 next_of broken h = if broken then [] else h ∷ []
 
-sound-push : (terms : Terms) (done before : List Heard) (h : Heard)
+pub sound-push : (terms : Terms) (done before : List Heard) (h : Heard)
     → sound_from terms done (before ++ h ∷ []) ≡ sound_from terms done before
     ++ next_of (is_some (first_from (rule_of terms) done before)
     || is_some (rule_of terms (done ++ before) h)) h

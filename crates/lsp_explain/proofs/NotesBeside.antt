@@ -48,6 +48,9 @@ noted_with ps p last =
     ∙ append_assoc (noted_of ps) (p.0 ++ fact_lines p.1) last
     ∙ ap (λ l. noted_of ps ++ l) (append_assoc (p.0) (fact_lines p.1) last))
 
+zero_more : (n whole : ℕ) → n ≡ whole → 0 + n ≡ whole
+zero_more n whole e = omega (arith, e)
+
 -- ---- the events, and the log
 
 module _ (completeness : Completeness) (terms : Terms) (rests : Rests) where
@@ -60,7 +63,9 @@ module _ (completeness : Completeness) (terms : Terms) (rests : Rests) where
       → (ps : List Passage) × HaveNotes ps
       × SaysAll (all_run completeness) terms rests before hs (plain_of ps) × (out ≡ noted_of ps)
       × (number_of ps + told before ≡ told (before ++ hs))
-  plain_events before [] out is = ([], tt, refl, is, ap told (sym (append-nil before)))
+  plain_events before [] out is =
+      let same = ap told (sym (append-nil before)) in
+      ([], tt, refl, is, zero_more (told before) (told (before ++ [])) same)
   plain_events before (h ∷ hs) out (first, left, is, own, goes, later) =
       let rest = plain_events (before ++ h ∷ []) hs left later in
       let notes = notes_at terms before h in
