@@ -412,6 +412,8 @@ def explains_each_violation(page, program, log):
     for line in lines_of(program, "explain", "--all", log):
         if found := NO.fullmatch(line):
             current = explained.setdefault((int(found[1]), int(found[4])), [])
+        elif line.startswith(("bad log ", "end ")):
+            current = None
         elif current is not None:
             current.append(line)
     for (rule, event), lines in explained.items():
