@@ -276,8 +276,8 @@ def shortens_what_breaks_rules_of_changes(program, place):
     """601 and 603 to 606: the document is opened with the text that it has by then, but for a 603
     before another message (`precedes`), which stays. Of several changes, those that make no
     difference go."""
-    log = head() + sent(opened(URI, 1, "".join(LINES))) + chatter(40)
-    log += sent(changed(URI, 5, edit((9, 0), (9, 3), "😀"))) + chatter(80)
+    middle = chatter(40) + sent(changed(URI, 5, edit((9, 0), (9, 3), "😀"))) + chatter(80)
+    log = head() + sent(opened(URI, 1, "".join(LINES))) + middle
     held = opening = None
     for last, held, opening, wanted in [
         (opened(URI, 6, "again\n"), "", 5, opened_with(6, "")),
@@ -290,9 +290,10 @@ def shortens_what_breaks_rules_of_changes(program, place):
     ]:
         wanted = [*HEAD, open_of(opening, held), wanted]
         leaves(program, place, log + sent(last) + chatter(900), wanted)
+    log = head() + sent(opened(URI, 3, "".join(LINES))) + middle
     leaves(program, place, log + sent(changed(URI, 4, edit((9, 1), (11, 0), ""))) + chatter(900), [
         *HEAD,
-        opened_with(1, "int value_9;\nint value_11;\n"),
+        opened_with(3, "int value_9;\nint value_11;\n"),
         change_of(5, (0, 0, 0, 3, "😀")),
         change_of(4, (0, 1, 1, 0, "")),
     ])
