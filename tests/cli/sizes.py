@@ -371,6 +371,24 @@ def padded(size):
     return front + b"m" * (size - len(front) - len(back)) + back
 
 
+def opened(uri):
+    """A `didOpen` of this URI whose content has the greatest size, in the form that `redact` writes."""
+    front = '{"jsonrpc":"2.0","method":"textDocument/didOpen","params":{"textDocument":{"text":"'
+    back = f'","uri":"{uri}","version":1}}}}}}'
+    return (front + "x" * (CONTENT - len(front) - len(back)) + back).encode()
+
+
+def redacted():
+    """Contents of the greatest size: the log that is left, where its name is as long, and none where it
+    is longer than the name that it stands for."""
+    whole = framed(opened("file:///1"))
+    pieces = [whole[at : at + CHUNK // 4] for at in range(0, len(whole), CHUNK // 4)]
+    left = b"lsp-session 1\n" + b"".join(b"E %d\n%s\n" % (len(it), it) for it in pieces)
+    yield b"lsp-session 1\n" + cut(b"E", whole), 0, left, b""
+    told = b"this log can't be redacted: without its words it has another verdict\n"
+    yield b"lsp-session 1\n" + cut(b"E", framed(opened("a"))), 6, b"", told
+
+
 def small():
     """Sessions of more than a thousand items of each kind, and of records of the maximum size."""
     for name, (log, report) in [
@@ -429,6 +447,8 @@ def large():
     yield "a content of the greatest size", ["frames"], framed(most), 0, b"1 %d\n" % CONTENT, b""
     words = b'1 %d notification "window/logMessage"\n' % CONTENT
     yield "a content of the greatest size", ["frames", "--as", "kinds"], framed(most), 0, words, b""
+    for log, status, out, err in redacted():
+        yield "a message of the greatest size", ["redact"], log, status, out, err
     over = b"no 105 server 2 event 4\ncontent too long\n"
     yield "a content that is too long", ["check"], START + cut(b"S", framed(padded(CONTENT + 1))), 1, over, b""
 

@@ -317,8 +317,11 @@ class Redaction:
         return it if kind is None else KINDS[kind][it == self.apart]
 
     def name(self, value):
-        """An id or a token."""
-        return self.texts(value) if isinstance(value, str) else value
+        """An id or a token: the number of its text, in the form that it has. A null stays."""
+        if value is None:
+            return None
+        number = self.texts(str(value))
+        return number if isinstance(value, str) else int(number)
 
     def params(self, side, kind, method, params):
         """The params that stay of a message, or None."""

@@ -10,7 +10,7 @@ use Rattle.lsp_command.specs.declared.task_outcome.TaskOutcome.{TaskOutcome}
 use Rattle.lsp_command.specs.declared.task_outcome.TaskOutcome.TheVariants as tasks
 use Rattle.lsp_verdict.specs.declared.outcome.Outcome.{Outcome}
 use Rattle.lsp_verdict.specs.declared.outcome.Outcome.TheVariants.{Done, Judged, Stream, NoDocument}
-use Rattle.lsp_verdict.specs.declared.outcome.Outcome.TheVariants.{NoDifference, TooFew}
+use Rattle.lsp_verdict.specs.declared.outcome.Outcome.TheVariants.{NoDifference, TooFew, Unlike}
 use Rattle.lsp_verdict.specs.declared.outcome.RunFault.{RunFault}
 use Rattle.lsp_verdict.specs.declared.outcome.StreamFault.{StreamFault}
 use Rattle.lsp_verdict.specs.declared.outcome.StreamFault.TheVariants.{Rule, TooLong}
@@ -126,6 +126,7 @@ run_hint Done bytes = None
 run_hint NoDocument bytes = Some hints.OtherDocuments
 run_hint TooFew bytes = None
 run_hint NoDifference bytes = None
+run_hint Unlike bytes = None
 
 abbrev pub event_hint : EventOutcome → List ℕ → Option Hint
 event_hint (events.BadLog number code) bytes = fault_hint number bytes

@@ -9,7 +9,7 @@ use Rattle.lsp_command.specs.declared.task_outcome.TaskOutcome.{TaskOutcome}
 use Rattle.lsp_command.specs.declared.task_outcome.TaskOutcome.TheVariants as tasks
 use Rattle.lsp_verdict.specs.declared.outcome.Outcome.{Outcome}
 use Rattle.lsp_verdict.specs.declared.outcome.Outcome.TheVariants.{Done, Judged, Stream, NoDocument}
-use Rattle.lsp_verdict.specs.declared.outcome.Outcome.TheVariants.{NoDifference, TooFew}
+use Rattle.lsp_verdict.specs.declared.outcome.Outcome.TheVariants.{NoDifference, TooFew, Unlike}
 use Rattle.lsp_verdict.specs.declared.outcome.RunFault.{RunFault}
 use Rattle.lsp_verdict.specs.declared.outcome.RunFault.TheVariants.{Read, Write, Memory}
 use Rattle.lsp_verdict.specs.declared.verdict.Verdict.{Verdict}
@@ -25,6 +25,8 @@ remark_of (Ok (tasks.Run NoDocument)) = Some (codes "no such document")
 remark_of (Ok (tasks.Run TooFew)) = Some (codes "fewer editor messages")
 remark_of (Ok (tasks.Run NoDifference)) =
     Some (codes "no texts differ: the verdict is neither 608 nor 702")
+remark_of (Ok (tasks.Run Unlike)) =
+    Some (codes "this log can't be redacted: without its words it has another verdict")
 remark_of (Ok (tasks.Run Done)) = None
 remark_of (Ok (tasks.Run (Judged v))) = None
 remark_of (Ok (tasks.Run (Stream frame fault))) = None

@@ -11,13 +11,13 @@ use Rattle.lsp_command.specs.declared.task_outcome.TaskOutcome.TheVariants as ta
 use Rattle.lsp_verdict.specs.Given.{verdict_view}
 use Rattle.lsp_verdict.specs.declared.outcome.Outcome.{Outcome}
 use Rattle.lsp_verdict.specs.declared.outcome.Outcome.TheVariants.{Done, Judged, Stream, NoDocument}
-use Rattle.lsp_verdict.specs.declared.outcome.Outcome.TheVariants.{NoDifference, TooFew}
+use Rattle.lsp_verdict.specs.declared.outcome.Outcome.TheVariants.{NoDifference, TooFew, Unlike}
 use Rattle.lsp_verdict.specs.declared.outcome.RunFault.{RunFault}
 use Rattle.lsp_verdict.specs.declared.outcome.RunFault.TheVariants.{Read, Write, Memory}
 use Rattle.lsp_verdict.specs.declared.verdict.Verdict.TheVariants.{Yes, No, BadLog}
 
 -- 0 yes or done, 1 no, 2 a bad log or a bad stream, 5 no such document, too few messages, or no
--- texts that differ
+-- texts that differ, 6 a log that can't be redacted
 abbrev pub status_of_outcome : Outcome → ℕ
 status_of_outcome Done = 0
 status_of_outcome (Judged (Yes s)) = 0
@@ -27,6 +27,7 @@ status_of_outcome (Stream frame fault) = 2
 status_of_outcome NoDocument = 5
 status_of_outcome TooFew = 5
 status_of_outcome NoDifference = 5
+status_of_outcome Unlike = 6
 
 -- 0 done, 2 a bad log, 5 no content, or too few events
 abbrev pub status_of_event : EventOutcome → ℕ
@@ -58,6 +59,7 @@ outcome_compared_nothing (Stream frame fault) = false
 outcome_compared_nothing NoDocument = false
 outcome_compared_nothing TooFew = false
 outcome_compared_nothing NoDifference = false
+outcome_compared_nothing Unlike = false
 
 abbrev pub task_compared_nothing : Result TaskOutcome RunFault → Bool
 task_compared_nothing (Ok (tasks.Run outcome)) = outcome_compared_nothing outcome

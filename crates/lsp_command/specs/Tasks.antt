@@ -22,10 +22,9 @@ use Rattle.lsp_replay.specs.JsonRun.{WritesJson, run_in}
 use Rattle.lsp_replay.specs.Run.{PassesOn}
 use Rattle.lsp_replay.specs.TextAnswers.{WritesText}
 use Rattle.lsp_replay.specs.declared.form.Form.TheVariants as forms
-use Rattle.lsp_explain.specs.AllNotes.{noted_run}
 use Rattle.lsp_explain.specs.ExplainRuns.{all_run, explain_run}
 use Rattle.lsp_explain.specs.Compared.{compared_run}
-use Rattle.lsp_redact.specs.Records.{most_of}
+use Rattle.lsp_explain.specs.NotedRun.{noted_run}
 use Rattle.lsp_redact.specs.Redacting.{redact_run}
 use Rattle.lsp_survey.specs.KeptText.{kept_text_run}
 use Rattle.lsp_survey.specs.SurveyRun.{report_run, show_all_run}
@@ -89,8 +88,7 @@ Answers limits (Event number) p result =
     × GivesEvent limits p (non_zero_u64_get number) ended
 Answers limits (Rewrite Normal) p result = EndsRun (Normalizes limits p) result
 Answers limits (Rewrite Upgrade) p result = EndsRun (UpgradesLog limits p) result
-Answers limits (Rewrite Redact) p result =
-    EndsRun (PassesOn (redact_run (most_of limits)) limits p) result
+Answers limits (Rewrite Redact) p result = EndsRun (PassesOn (redact_run limits) limits p) result
 Answers limits (Frames mode) p result = EndsRun (RunsFrames mode limits p) result
 
 -- a task is done, and fails where the source or the sink counted a failure

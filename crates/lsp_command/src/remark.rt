@@ -19,6 +19,9 @@ pub fn remark_of(ended: &Result<TaskOutcome, RunFault>) -> Option<&'static str>
         Ok(TaskOutcome::Run(Outcome::NoDifference)) => {
             Some("no texts differ: the verdict is neither 608 nor 702")
         }
+        Ok(TaskOutcome::Run(Outcome::Unlike)) => {
+            Some("this log can't be redacted: without its words it has another verdict")
+        }
         Ok(TaskOutcome::Event(EventOutcome::NoContent)) => Some("no content"),
         Ok(TaskOutcome::Event(EventOutcome::FewerEvents)) => Some("fewer events"),
         Ok(_) => None,

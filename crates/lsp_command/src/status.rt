@@ -18,6 +18,7 @@ fn status_of_outcome(outcome: &Outcome) -> u8
         Outcome::Judged(Verdict::No { .. }) => 1,
         Outcome::Judged(Verdict::BadLog { .. }) | Outcome::Stream { .. } => 2,
         Outcome::NoDocument | Outcome::TooFew | Outcome::NoDifference => 5,
+        Outcome::Unlike => 6,
     }
 }
 

@@ -21,14 +21,15 @@ use Rattle.lsp_verdict.specs.Verdict.{Verdict, no_by}
 use Rattle.lsp_verdict.specs.declared.completeness.Completeness.{Completeness}
 use Rattle.lsp_verdict.specs.declared.outcome.Outcome.TheVariants.{Judged}
 use Rattle.lsp_verdict.specs.declared.verdict.Verdict as code
-use Rattle.lsp_explain.specs.ExplainRuns.{AllStands, FirstStands, TellsOf, SaysCauses, SaysFirst}
+use Rattle.lsp_explain.specs.ExplainRuns.{AllStands, FirstStands, SaysCauses, SaysFirst}
 use Rattle.lsp_explain.specs.ExplainRuns.{all_run, cause_at, explain_run, first_lines, has_cause}
 use Rattle.lsp_explain.specs.ExplainRuns.{may_keep}
-use Rattle.lsp_explain.specs.Explained.{cause_lines, is_cause, Breach, breach, noticed_by}
-use Rattle.lsp_explain.specs.MessageNotes.{AreNoted}
-use Rattle.lsp_explain.specs.Misfits.{AreMisfits, found_kept}
-use Rattle.lsp_explain.specs.Notes.{note_lines, notes_by}
-use Rattle.lsp_explain.specs.Trails.{IsTrail}
+use Rattle.lsp_origins.specs.Explained.{cause_lines, is_cause, TellsOf}
+use Rattle.lsp_notes.specs.MessageNotes.{AreNoted}
+use Rattle.lsp_notes.specs.Misfits.{AreMisfits, found_kept}
+use Rattle.lsp_notes.specs.Notes.{note_lines, notes_by, noticed_by}
+use Rattle.lsp_trail.specs.Trails.{IsTrail}
+use Rattle.lsp_trail.specs.Breaches.{Breach, breach}
 use Rattle.lsp_explain.specs.declared.run.FirstOffence.{FirstOffence}
 use Rattle.lsp_explain.specs.declared.run_all.AllCauses.{AllCauses}
 

@@ -24,13 +24,14 @@ use Rattle.lsp_verdict.specs.declared.outcome.Outcome.{Outcome}
 use Rattle.lsp_verdict.proofs.LookBackLemmas.{cons_append}
 use Rattle.lsp_verdict.proofs.Offences.Offending.{first_listed, nothing_listed}
 use Rattle.lsp_verdict.proofs.Offences.Surveying.{survey_agrees}
-use Rattle.lsp_explain.specs.Asking.{Numbered, numbered}
-use Rattle.lsp_explain.specs.AllNotes.{noted_run}
+use Rattle.lsp_trail.specs.Asking.{Numbered, numbered}
+use Rattle.lsp_trail.specs.Breaches.{breach}
 use Rattle.lsp_explain.specs.ExplainLaws.{AllAnswersVerdict, CausesAreExplained, FirstIsVerdict}
 use Rattle.lsp_explain.specs.ExplainLaws.{NotedAnswersVerdict}
-use Rattle.lsp_explain.specs.ExplainRuns.{all_end, all_run, ends_said, flaw_at}
-use Rattle.lsp_explain.specs.Explained.{Explained, Explains, all_closing, breach}
-use Rattle.lsp_explain.specs.Explained.{cause_lines, end_explained, is_cause}
+use Rattle.lsp_explain.specs.ExplainRuns.{all_end, all_run, ends_said}
+use Rattle.lsp_explain.specs.NotedRun.{noted_run}
+use Rattle.lsp_origins.specs.Explained.{Explained, Explains, all_closing}
+use Rattle.lsp_origins.specs.Explained.{cause_lines, end_explained, is_cause, flaw_at}
 
 pub all_answer : AllAnswersVerdict
 all_answer completeness = all_answers completeness (all_run completeness) (λ terms before h. refl)

@@ -14,7 +14,7 @@ use Rattle.lsp_replay.specs.declared.seen.Fate.TheVariants.{Offends}
 use Rattle.lsp_replay.specs.declared.seen.Seen.{Seen}
 use Rattle.lsp_replay.proofs.Seeing.{events-push}
 use Rattle.lsp_session.specs.State as session
-use Rattle.lsp_text.specs.Counted.{Counted}
+use Rattle.lsp_lined.specs.Counted.{Counted}
 use Rattle.lsp_verdict.specs.Event.{call_at, calls, Event}
 use Rattle.lsp_verdict.specs.Heard.{Heard, heard_events}
 use Rattle.lsp_verdict.specs.Offences.{kept_of}

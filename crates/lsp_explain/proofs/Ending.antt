@@ -21,7 +21,7 @@ use Rattle.lsp_session.specs.Incomplete.{incomplete, is_any_open}
 use Rattle.lsp_session.specs.Negotiation.{first_row}
 use Rattle.lsp_session.specs.Requests.{open_requests}
 use Rattle.lsp_session.specs.Sent.{is_exit}
-use Rattle.lsp_explain.specs.Asking.{Numbered, numbered}
+use Rattle.lsp_trail.specs.Asking.{Numbered, numbered}
 use Rattle.lsp_survey.specs.Reported.{count_line, verdict_lines}
 use Rattle.lsp_survey.proofs.SessionEnds.{ends_few, given_few, ends_fit}
 use Rattle.lsp_survey.specs.SessionEnds.{all_found, ends_held, ends_of}
@@ -44,11 +44,12 @@ use Rattle.lsp_verdict.specs.declared.verdict.Who.TheVariants as who
 use Rattle.lsp_verdict.proofs.Finding.{map_one}
 use Rattle.lsp_facts.specs.Fact.{Fact}
 use Rattle.lsp_facts.specs.EventFacts.{flaw_facts}
-use Rattle.lsp_explain.specs.ExplainRuns.{flaw_held, rests_held, all_run, end_verdict, ends_said}
-use Rattle.lsp_explain.specs.ExplainRuns.{explain_run, flaw_at}
-use Rattle.lsp_explain.specs.Explained.{all_closing, cause_lines, Explained, end_explained}
-use Rattle.lsp_explain.specs.Explained.{explanation, flaw_lines, noticed_by, said_of}
-use Rattle.lsp_explain.specs.Notes.{note_lines, notes_by}
+use Rattle.lsp_explain.specs.ExplainRuns.{all_run, end_verdict, ends_said}
+use Rattle.lsp_explain.specs.ExplainRuns.{explain_run}
+use Rattle.lsp_origins.specs.Explained.{all_closing, cause_lines, Explained, end_explained}
+use Rattle.lsp_origins.specs.Explained.{explanation, flaw_lines, said_of}
+use Rattle.lsp_origins.specs.Explained.{flaw_held, rests_held, flaw_at}
+use Rattle.lsp_notes.specs.Notes.{note_lines, notes_by, noticed_by}
 
 -- ---- what is listed of the end says nothing of a side whose frames have a fault
 

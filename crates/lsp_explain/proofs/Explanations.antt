@@ -32,9 +32,9 @@ use Rattle.lsp_verdict.proofs.Offences.Offending.{first_listed, nothing_listed}
 use Rattle.lsp_explain.specs.ExplainLaws.{BeginsWithReport, ExplanationAnswersVerdict, YesIsReport}
 use Rattle.lsp_explain.specs.ExplainRuns.{SaysFirst, end_explanation, end_verdict, ends_said}
 use Rattle.lsp_explain.specs.ExplainRuns.{explain_run}
-use Rattle.lsp_explain.specs.Explained.{breach}
-use Rattle.lsp_explain.specs.Explained.{flaw_lines, noticed_by, said_of}
-use Rattle.lsp_explain.specs.Notes.{note_lines, notes_by}
+use Rattle.lsp_origins.specs.Explained.{flaw_lines, said_of}
+use Rattle.lsp_notes.specs.Notes.{note_lines, notes_by, noticed_by}
+use Rattle.lsp_trail.specs.Breaches.{breach}
 
 -- ---- the events before the one where it stops
 

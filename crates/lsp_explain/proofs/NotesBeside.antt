@@ -7,13 +7,14 @@ use Rattle.lsp_replay.specs.Run.{EndsAfter, IsPassed, SaysAll, StopsIn}
 use Rattle.lsp_verdict.specs.Heard.{Heard, Rests}
 use Rattle.lsp_verdict.specs.Outcome.{log_terms}
 use Rattle.lsp_verdict.specs.declared.completeness.Completeness.{Completeness}
-use Rattle.lsp_explain.specs.AllNotes.{AreNotes, HaveNotes, NotesAreBeside, Passage, kinds, noted_of}
-use Rattle.lsp_explain.specs.AllNotes.{noted_run, noted_verdict}
-use Rattle.lsp_explain.specs.AllNotes.{noticed_along, notes_at, number_of, plain_of}
+use Rattle.lsp_notes.specs.AllNotes.{AreNotes, kinds}
+use Rattle.lsp_notes.specs.AllNotes.{noticed_along, notes_at}
 use Rattle.lsp_explain.specs.ExplainRuns.{all_run}
-use Rattle.lsp_explain.specs.Notes.{count_line, notes_by, uncompared}
-use Rattle.lsp_explain.proofs.NoteLines.{notes_found, uncompared_notes}
-use Rattle.lsp_explain.proofs.NoteNumbers.{all_counted, none_yet, notes_added, total}
+use Rattle.lsp_explain.specs.NotedRun.{HaveNotes, NotesAreBeside, Passage, noted_of, noted_run}
+use Rattle.lsp_explain.specs.NotedRun.{noted_verdict, number_of, plain_of}
+use Rattle.lsp_notes.specs.Notes.{count_line, notes_by, uncompared}
+use Rattle.lsp_notes.proofs.NoteNumbers.{all_counted, none_yet, notes_added, total}
+use Rattle.lsp_notes.proofs.NotesByKind.{notes_found, uncompared_notes}
 
 -- ---- one passage more
 

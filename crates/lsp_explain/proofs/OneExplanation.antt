@@ -19,15 +19,16 @@ use Rattle.lsp_verdict.specs.Offences.{events_of, kept_of, rule_at}
 use Rattle.lsp_verdict.specs.Verdict.{Verdict, no_by, summary}
 use Rattle.lsp_verdict.specs.declared.completeness.Completeness.{Completeness}
 use Rattle.lsp_verdict.specs.declared.outcome.Outcome.{Outcome}
-use Rattle.lsp_explain.specs.AllNotes.{SaysMore, end_notes, noted_run, noted_verdict, notes_at}
-use Rattle.lsp_explain.specs.AllNotes.{noticed_along}
+use Rattle.lsp_notes.specs.AllNotes.{end_notes, notes_at}
+use Rattle.lsp_notes.specs.AllNotes.{noticed_along}
 use Rattle.lsp_explain.specs.ExplainLaws.{OneExplanation, OneExplanationOfAll, OneNotedExplanation}
 use Rattle.lsp_explain.specs.ExplainRuns.{SaysCauses, SaysFirst, all_end, all_run, cause_at}
 use Rattle.lsp_explain.specs.ExplainRuns.{end_explanation, end_verdict, explain_run, first_lines}
-use Rattle.lsp_explain.specs.ExplainRuns.{flaw_at}
-use Rattle.lsp_explain.specs.Explained.{Breach, Explained, Explains, breach, breach_at, cause_lines}
-use Rattle.lsp_explain.specs.Explained.{event_of, is_cause}
-use Rattle.lsp_explain.specs.Traced.{earlier_at, traced}
+use Rattle.lsp_explain.specs.NotedRun.{SaysMore, noted_run, noted_verdict}
+use Rattle.lsp_origins.specs.Explained.{Explained, Explains, cause_lines}
+use Rattle.lsp_origins.specs.Explained.{event_of, is_cause, flaw_at}
+use Rattle.lsp_origins.specs.Traced.{earlier_at, traced}
+use Rattle.lsp_trail.specs.Breaches.{Breach, breach, breach_at}
 
 -- ---- an event that offends
 

@@ -16,13 +16,14 @@ use Rattle.lsp_verdict.specs.Survey.{IsSurvey, shown_of}
 use Rattle.lsp_verdict.specs.Verdict.{Summary, Verdict, yes}
 use Rattle.lsp_verdict.specs.declared.completeness.Completeness.{Completeness}
 use Rattle.lsp_verdict.specs.declared.outcome.Outcome.{Outcome}
-use Rattle.lsp_explain.specs.AllNotes.{noted_run}
 use Rattle.lsp_explain.specs.Compared.{AnswersCompared, compared_run}
 use Rattle.lsp_explain.specs.ExplainRuns.{all_run, end_explanation, end_verdict, explain_run}
 use Rattle.lsp_explain.specs.ExplainRuns.{first_lines}
-use Rattle.lsp_explain.specs.Explained.{Breach, Explained, all_closing, cause_lines, noticed_by}
-use Rattle.lsp_explain.specs.Notes.{note_lines, notes_by}
+use Rattle.lsp_origins.specs.Explained.{Explained, all_closing, cause_lines}
+use Rattle.lsp_notes.specs.Notes.{note_lines, notes_by, noticed_by}
 use Rattle.lsp_explain.specs.declared.compared.ComparedText.{ComparedText}
+use Rattle.lsp_explain.specs.NotedRun.{noted_run}
+use Rattle.lsp_trail.specs.Breaches.{Breach}
 
 -- ---- each log has one output
 

@@ -4,31 +4,26 @@ use Rattle.std.specs.Prelude.{true, not, is_some, Option, Some, None}
 use Rattle.std.specs.List.{AllZip, cons_option, flat_map}
 use Rattle.lsp_docs.specs.Documents.{Terms}
 use Rattle.lsp_log.specs.declared.fault.LogCode.{LogCode}
-use Rattle.lsp_log.specs.Reader.{shown_by}
 use Rattle.lsp_replay.specs.Run.{IsJudged, Run}
 use Rattle.lsp_replay.specs.Telling.{no_of, rule_of}
-use Rattle.lsp_replay.specs.LogEvents.{flaw_of}
-use Rattle.lsp_replay.specs.declared.log_events.End.{End}
-use Rattle.lsp_replay.specs.declared.log_events.LogEvents.{LogEvents}
 use Rattle.lsp_survey.specs.SessionEnds.{all_found, all_verdict, ends_of}
 use Rattle.lsp_survey.specs.Lost.{AreLosses}
 use Rattle.lsp_survey.specs.Reported.{IsTally}
 use Rattle.lsp_verdict.specs.Heard.{Heard, Rests, heard_events, notes_of}
 use Rattle.lsp_verdict.specs.Survey.{by_itself, first_verdict}
-use Rattle.lsp_verdict.specs.Verdict.{Verdict, bad_log_of, summary, first_no, no_by}
+use Rattle.lsp_verdict.specs.Verdict.{Verdict, bad_log_of, summary, first_no}
 use Rattle.lsp_verdict.specs.declared.completeness.Completeness.{Completeness}
 use Rattle.lsp_verdict.specs.Offences.{Offence, offence_at, offences}
 use Rattle.lsp_verdict.specs.Placed.{Raw, broken, content, show}
 use Rattle.lsp_facts.specs.Fact.{Fact}
-use Rattle.lsp_facts.specs.EventFacts.{flaw_facts}
-use Rattle.lsp_explain.specs.Asking.{numbered}
-use Rattle.lsp_explain.specs.Explained.{all_closing, cause_lines, is_cause, Breach, Explained}
-use Rattle.lsp_explain.specs.Explained.{Explains, breach_at, end_explained, explanation, breach}
-use Rattle.lsp_explain.specs.Explained.{noticed_by}
-use Rattle.lsp_explain.specs.MessageNotes.{AreNoted}
-use Rattle.lsp_explain.specs.Misfits.{AreMisfits, found_kept}
-use Rattle.lsp_explain.specs.Notes.{note_lines, notes_by}
-use Rattle.lsp_explain.specs.Trails.{IsTrail}
+use Rattle.lsp_trail.specs.Asking.{numbered}
+use Rattle.lsp_origins.specs.Explained.{all_closing, cause_lines, is_cause, Explained}
+use Rattle.lsp_origins.specs.Explained.{Explains, end_explained, explanation, flaw_at}
+use Rattle.lsp_notes.specs.MessageNotes.{AreNoted}
+use Rattle.lsp_notes.specs.Misfits.{AreMisfits, found_kept}
+use Rattle.lsp_notes.specs.Notes.{note_lines, notes_by, noticed_by}
+use Rattle.lsp_trail.specs.Trails.{IsTrail}
+use Rattle.lsp_trail.specs.Breaches.{Breach, breach_at}
 use Rattle.lsp_explain.specs.declared.run.FirstOffence.{FirstOffence}
 use Rattle.lsp_explain.specs.declared.run_all.AllCauses.{AllCauses}
 
@@ -57,11 +52,6 @@ SaysCauses rests terms found out =
     × (out ≡ flat_map cause_lines said)
 
 -- ---- the end
-
--- the facts on a fault of the log, which comes after so many of its bytes, where this line is
-abbrev pub flaw_at : ℕ → List ℕ → Option (ℕ × LogCode) → List Fact
-flaw_at place line None = []
-flaw_at place line (Some (number, code)) = flaw_facts number place line
 
 -- what is said about these ends
 abbrev pub ends_said : Terms → List Heard → Rests → List Verdict → List Explained
@@ -147,26 +137,3 @@ pub record AllStands (a : AllCauses) (terms : Terms) (heard : List Heard) : Type
   pub lost : AreLosses terms a.losses (notes_of heard)
   pub tallied : IsTally a.tally (offences terms (notes_of heard))
   pub trail : IsTrail terms a.trail (heard_events heard)
-
--- it is said what the event is that offends by this rule, whatever rests the log has that fit
-pub record TellsOf (terms : Terms) (before : List Heard) (h : Heard) (rule : ℕ)
-    (Fits : Rests → Type 0) (old new : List ℕ) : Type 0 where
-  pub e : Explained
-  pub no_is : e.no ≡ no_by (heard_events before) h.note.event rule
-  pub explains : (rests : Rests) → Fits rests → Explains rests terms (breach before h rule) e
-  pub added : new ≡ old ++ cause_lines e
-
--- ---- the end, as the reader of the log tells it
-
--- the bytes of both sides after their last whole frames
-abbrev pub rests_held : LogEvents → Rests
-rests_held e = record {
-  editor = e.streams.editor.rest;
-  server = e.streams.server.rest;
-  editor_behind = [];
-  server_behind = [];
-}
-
--- the facts on a fault
-abbrev pub flaw_held : LogEvents → End → List Fact
-flaw_held e end = flaw_at e.log.place (shown_by e.log) (flaw_of end)

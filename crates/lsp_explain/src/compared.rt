@@ -12,9 +12,9 @@ ghost use Rattle.lsp_explain.specs.Compared.{ComparedAsked, compared_run, sound_
 
 use lsp_facts::{TwoTexts, texts_at};
 use lsp_frame::{Limits, Sink, Source};
+use lsp_lined::Lined;
 use lsp_replay::{Account, End, Events, Fate, Flow, LogEvents, Seen, TextAnswer, pass};
 use lsp_rpc::Result;
-use lsp_text::Lined;
 use lsp_verdict::{Outcome, RunFault, Verdict};
 use std::alloc::Global;
 

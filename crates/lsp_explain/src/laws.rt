@@ -1,5 +1,4 @@
 //! Laws of what is explained.
-ghost use Rattle.lsp_explain.specs.AllNotes.{NotesAreBeside};
 ghost use Rattle.lsp_explain.specs.ExplainLaws.{AllAnswersVerdict, BeginsWithReport};
 ghost use Rattle.lsp_explain.specs.ExplainLaws.{CausesAreExplained, ComparedAtItsEnd};
 ghost use Rattle.lsp_explain.specs.ExplainLaws.{ComparedTextIsOfSurvey};
@@ -7,7 +6,8 @@ ghost use Rattle.lsp_explain.specs.ExplainLaws.{ExplanationAnswersVerdict, Expla
 ghost use Rattle.lsp_explain.specs.ExplainLaws.{FirstIsVerdict, NotedAnswersVerdict};
 ghost use Rattle.lsp_explain.specs.ExplainLaws.{OneComparedText, OneExplanation};
 ghost use Rattle.lsp_explain.specs.ExplainLaws.{OneExplanationOfAll, OneNotedExplanation, YesIsReport};
-ghost use Rattle.lsp_explain.specs.StandardMethods.{MethodsHaveRows, RowsAreStandard};
+ghost use Rattle.lsp_explain.specs.NotedRun.{NotesAreBeside};
+ghost use Rattle.lsp_trail.specs.StandardMethods.{MethodsHaveRows, RowsAreStandard};
 
 /// An explanation begins with the report of the verdict.
 pub fn explanation_begins_with_report()

@@ -2,34 +2,18 @@
 //! writes all that is wrong.
 //!
 //! [`run_explain`] reads a log and explains the verdict on it, and [`run_explain_all`] all that is
-//! wrong with it; [`run_explain_noted`] also tells the notes on the way. An offence is explained by
-//! the facts of `lsp_facts` and by the earlier events that led to it. [`run_compared`] writes one
-//! of two whole texts, if the verdict says that they differ. The others also write JSON. Each is an
+//! wrong with it; [`run_explain_noted`] also tells the notes on the way. What is said about an
+//! offence is in `lsp_origins`, and the notes are in `lsp_notes`. [`run_compared`] writes one of
+//! two whole texts, if the verdict says that they differ. The others also write JSON. Each is an
 //! account (`FirstOffence`, `AllCauses`, `NotedCauses`, `OneText`) over the one `pass` of
-//! `lsp_replay`, and `Trail` keeps on the way which events led to what.
+//! `lsp_replay`, and the `Trail` of `lsp_trail` keeps on the way which events led to what.
 #![tactic(auto)]
 
 mod compared;
-mod fits;
 mod laws;
-mod naming;
-mod notes;
-mod offence_facts;
-mod older_encoding;
-mod other_lines;
-mod rearranged;
-mod right_from;
 mod run;
 mod run_all;
 mod run_noted;
-mod spelled;
-mod suspects;
-mod told;
-mod trace;
-mod trail;
-mod twins;
-mod unopened;
-mod unrisen;
 
 pub use compared::{ComparedText, run_compared};
 pub use laws::{

@@ -14,20 +14,20 @@ ghost use Rattle.lsp_verdict.specs.Runs.{ports};
 ghost use Rattle.lsp_verdict.specs.Survey.{by_itself};
 ghost use Rattle.lsp_verdict.specs.Verdict.{bad_log_of, first_no, summary};
 ghost use Rattle.lsp_verdict.specs.declared.completeness.Completeness.{Completeness};
-ghost use Rattle.lsp_explain.specs.ExplainRuns.{FirstStands, flaw_held, rests_held, end_verdict};
+ghost use Rattle.lsp_explain.specs.ExplainRuns.{FirstStands, end_verdict};
 ghost use Rattle.lsp_explain.specs.ExplainRuns.{ends_said, explain_run};
-ghost use Rattle.lsp_explain.specs.Explained.{explanation};
-ghost use Rattle.lsp_explain.specs.Trails.{IsTrail};
+ghost use Rattle.lsp_origins.specs.Explained.{explanation, flaw_held, rests_held};
+ghost use Rattle.lsp_trail.specs.Trails.{IsTrail};
 
-use crate::notes::{MessageNotes, Misfits, push_notes};
-use crate::offence_facts::{push_end, push_flaw, push_offence};
-use crate::trail::{Past, Trail};
 use lsp_docs::Tried;
 use lsp_frame::{Limits, Sink, Source};
+use lsp_lined::Lined;
+use lsp_notes::{MessageNotes, Misfits, push_notes};
+use lsp_origins::{push_end, push_flaw, push_offence};
 use lsp_replay::{Account, End, Events, Fate, Flow, Form, LogEvents, Seen, last_offence, pass_in};
 use lsp_rpc::Result;
 use lsp_survey::{OffenceCount, SessionEnd, session_end};
-use lsp_text::Lined;
+use lsp_trail::{Past, Trail};
 use lsp_verdict::{Completeness, Outcome, RunFault, Verdict};
 use std::alloc::Global;
 

@@ -14,18 +14,18 @@ ghost use Rattle.lsp_verdict.specs.Offences.{Offence as SpecOffence};
 ghost use Rattle.lsp_verdict.specs.Runs.{ports};
 ghost use Rattle.lsp_verdict.specs.declared.completeness.Completeness.{Completeness};
 ghost use Rattle.lsp_verdict.specs.declared.outcome.Outcome.TheVariants.{Judged};
-ghost use Rattle.lsp_explain.specs.Asking.{numbered};
-ghost use Rattle.lsp_explain.specs.ExplainRuns.{AllStands, rests_held, all_run};
-ghost use Rattle.lsp_explain.specs.Explained.{cause_lines, end_explained};
-ghost use Rattle.lsp_explain.specs.Trails.{StandsAfter, terms_in};
+ghost use Rattle.lsp_trail.specs.Asking.{numbered};
+ghost use Rattle.lsp_explain.specs.ExplainRuns.{AllStands, all_run};
+ghost use Rattle.lsp_origins.specs.Explained.{cause_lines, end_explained, rests_held};
+ghost use Rattle.lsp_trail.specs.Trails.{StandsAfter, terms_in};
 
-use crate::offence_facts::{push_end, push_flaw, push_offence};
-use crate::trail::{Past, Trail};
 use lsp_frame::{Limits, Sink, Source};
+use lsp_lined::Lined;
+use lsp_origins::{push_end, push_flaw, push_offence};
 use lsp_replay::{Account, End, Events, Fate, Flow, Form, LogEvents, Seen, last_offence, pass_in};
 use lsp_rpc::Result;
 use lsp_survey::{Losses, OffenceCount, SessionEnd, session_end};
-use lsp_text::Lined;
+use lsp_trail::{Past, Trail};
 use lsp_verdict::{Completeness, Offence, Outcome, RunFault, Verdict};
 use std::alloc::Global;
 

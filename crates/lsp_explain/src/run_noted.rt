@@ -5,15 +5,15 @@ ghost use Rattle.lsp_replay.specs.JsonRun.{run_in};
 ghost use Rattle.lsp_replay.specs.Run.{PassesOn};
 ghost use Rattle.lsp_verdict.specs.Runs.{ports};
 ghost use Rattle.lsp_verdict.specs.declared.completeness.Completeness.{Completeness};
-ghost use Rattle.lsp_explain.specs.AllNotes.{NotedStands, noted_run};
+ghost use Rattle.lsp_explain.specs.NotedRun.{NotedStands, noted_run};
 
-use crate::notes::NotesAlong;
 use crate::run_all::AllCauses;
-use crate::trail::Past;
 use lsp_frame::{Limits, Sink, Source};
+use lsp_lined::Lined;
+use lsp_notes::NotesAlong;
 use lsp_replay::{Account, End, Events, Flow, Form, LogEvents, Seen, pass_in};
 use lsp_rpc::Result;
-use lsp_text::Lined;
+use lsp_trail::Past;
 use lsp_verdict::{Completeness, Outcome, RunFault};
 use std::alloc::Global;
 

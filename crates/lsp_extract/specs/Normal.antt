@@ -19,7 +19,7 @@ use Rattle.lsp_log.specs.declared.fault.LogCode.{LogCode}
 use Rattle.lsp_log.specs.Log.{Record, chunk, shown, first_line, spelling, IsLog}
 use Rattle.lsp_verdict.specs.declared.outcome.Outcome.{Outcome}
 use Rattle.lsp_verdict.specs.declared.outcome.Outcome.TheVariants.{Done, Judged, Stream, NoDocument}
-use Rattle.lsp_verdict.specs.declared.outcome.Outcome.TheVariants.{NoDifference, TooFew}
+use Rattle.lsp_verdict.specs.declared.outcome.Outcome.TheVariants.{NoDifference, TooFew, Unlike}
 use Rattle.lsp_verdict.specs.declared.outcome.RunFault.{RunFault}
 use Rattle.lsp_verdict.specs.Given.{verdict_view, as_given, AreCounts}
 use Rattle.lsp_verdict.specs.LookBack.{first_of}
@@ -118,6 +118,7 @@ Carries (Stream frame fault) _ = ⊥
 Carries NoDocument fault = ⊥
 Carries TooFew fault = ⊥
 Carries NoDifference fault = ⊥
+Carries Unlike fault = ⊥
 
 -- this is the normal form of the log, and the outcome carries the fault that ends it, if any
 abbrev pub EndsNormal : Bounds → List ℕ → List ℕ → Outcome → Type 0

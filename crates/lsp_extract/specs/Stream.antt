@@ -15,7 +15,7 @@ use Rattle.lsp_verdict.specs.declared.outcome.Mode.{Mode}
 use Rattle.lsp_verdict.specs.declared.outcome.Mode.TheVariants.{Lengths, Canonical, Kinds}
 use Rattle.lsp_verdict.specs.declared.outcome.Outcome.{Outcome}
 use Rattle.lsp_verdict.specs.declared.outcome.Outcome.TheVariants.{Done, Stream, Judged, NoDocument}
-use Rattle.lsp_verdict.specs.declared.outcome.Outcome.TheVariants.{NoDifference, TooFew}
+use Rattle.lsp_verdict.specs.declared.outcome.Outcome.TheVariants.{NoDifference, TooFew, Unlike}
 use Rattle.lsp_verdict.specs.declared.outcome.StreamFault.{StreamFault}
 use Rattle.lsp_verdict.specs.declared.outcome.StreamFault.TheVariants.{Rule, TooLong}
 use Rattle.lsp_verdict.specs.Runs.{Ports, ports, OfRead, sink_failures_after}
@@ -96,6 +96,7 @@ closing mode (Judged v) = []
 closing mode NoDocument = []
 closing mode TooFew = []
 closing mode NoDifference = []
+closing mode Unlike = []
 
 -- all that is due for a stream, and how it ends
 abbrev pub IsRun : Bounds → Mode → List ℕ → List ℕ → Outcome → Type 0

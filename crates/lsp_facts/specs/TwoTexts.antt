@@ -7,7 +7,7 @@ use Rattle.lsp_docs.specs.Rules.{call_rule, other_than}
 use Rattle.lsp_docs.specs.Documents.{Terms, Version, versioned, held}
 use Rattle.lsp_docs.specs.Snapshots.{kept}
 use Rattle.lsp_types.specs.declared.rules.TheConstants as rules
-use Rattle.lsp_text.specs.Counted.{Counted}
+use Rattle.lsp_lined.specs.Counted.{Counted}
 use Rattle.lsp_text.specs.SameText.{SameText}
 use Rattle.lsp_verdict.specs.Event.{call_at, calls, Event}
 use Rattle.lsp_facts.specs.declared.lent_text.LentText.{LentText}

@@ -16,8 +16,9 @@ ghost use Rattle.lsp_verdict.specs.Verdict.{offence};
 use crate::lent_text::LentText;
 use crate::made::{Brought, brings};
 use lsp_docs::{Call, Docs, Tried};
+use lsp_lined::Lined;
 use lsp_replay::Events;
-use lsp_text::{Lined, TextStore};
+use lsp_text::TextStore;
 use lsp_types::rules;
 
 /// Two texts of one document that differ.

@@ -6,6 +6,7 @@ pub mod Told
 pub mod JudgingRuns
 pub mod TextRuns
 pub mod Finals
+pub mod InMemory
 pub mod JudgingSteps
 pub mod JudgedRuns
 pub mod Quiet

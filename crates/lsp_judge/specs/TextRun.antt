@@ -12,5 +12,6 @@ given_as outcomes.Done bytes = text_is (chars bytes)
 given_as outcomes.NoDocument bytes = no_document
 given_as outcomes.TooFew bytes = too_few
 given_as outcomes.NoDifference bytes = no_difference
+given_as outcomes.Unlike bytes = no_difference
 given_as (outcomes.Judged v) bytes = refused (verdict_view v)
 given_as (outcomes.Stream frame fault) bytes = text_is (chars bytes)

@@ -2,7 +2,7 @@
 ghost use Rattle.lsp_judge.specs.Checked.{Checked};
 ghost use Rattle.lsp_verdict.specs.Runs.{ports};
 
-use crate::judging::{Form, Judging};
+use crate::judging::{Form, Judging, Rejudging};
 use lsp_frame::{Limits, Sink, Source};
 use lsp_replay::pass;
 use lsp_verdict::{Completeness, Outcome, RunFault};
@@ -63,5 +63,25 @@ fn check<R: Source, W: Sink>(
         lines: None,
         form: Form::Report,
     };
+    pass(alloc, reader, writer, limits, &mut account)
+}
+
+/// Reads a log that is held in memory as [`run_check`] does.
+pub(crate) fn check_held<R: Source, W: Sink>(
+    alloc: Global,
+    reader: &mut R,
+    writer: &mut W,
+    limits: Limits,
+) -> Result<Outcome, RunFault>
+    ensures checked { Checked Completeness.Ignored limits
+        (ports (R.told reader.old) (R.told reader.new) (W.told writer.old) (W.told writer.new))
+        result }
+{
+    let judging = Judging {
+        completeness: Completeness::Ignored,
+        lines: None,
+        form: Form::Report,
+    };
+    let mut account = Rejudging { judging };
     pass(alloc, reader, writer, limits, &mut account)
 }

@@ -12,7 +12,7 @@ use lsp_text::TextStore;
 use lsp_verdict::{Completeness, Summary, Verdict};
 
 /// The verdict where the log ends so after these events: a fault of it, or what its session gives.
-pub(crate) fn verdict_at<S: TextStore>(
+pub fn verdict_at<S: TextStore>(
     events: &Events<S>,
     log: &LogEvents,
     end: End,

@@ -8,9 +8,9 @@ ghost use Rattle.lsp_verdict.specs.Verdict.{first_no};
 use crate::check_line::{line_remark, push_line};
 use crate::check_object::push_object;
 use crate::ending::verdict_at;
+use lsp_lined::Lined;
 use lsp_replay::{Account, End, Events, Fate, Flow, LogEvents, Seen, last_offence, push_kept_line};
 use lsp_rpc::Result;
-use lsp_text::Lined;
 use lsp_verdict::{Completeness, Lines, Outcome, Verdict, verdict_report};
 
 /// What is said for a verdict.
@@ -84,5 +84,40 @@ impl Account for Judging<'_> {
         let verdict = verdict_at(held, log, end, self.completeness)?;
         self.say(&verdict, text)?;
         Ok(Outcome::Judged(verdict))
+    }
+}
+
+/// The same for a log in memory. What `check` runs is so compiled for `check` alone, and its calls
+/// stay as few.
+#[derive(Drop)]
+pub(crate) struct Rejudging<'a> {
+    pub(crate) judging: Judging<'a>,
+}
+
+impl Account for Rejudging<'_> {
+    ghost Asked = { JudgingAsked };
+
+    ghost asked = { λ account. record {
+      completeness = account.judging.completeness;
+      lines = account.judging.lines;
+      form = form_view account.judging.form;
+    } };
+
+    ghost run = { judging_run };
+
+    ghost stands = { λ account terms heard. first_no terms (heard_events heard) ≡ None };
+
+    fn event(&mut self, held: &Events<Lined>, seen: &Seen<'_>, text: &mut String) -> Result<Flow> {
+        self.judging.event(held, seen, text)
+    }
+
+    fn end(
+        &mut self,
+        held: &Events<Lined>,
+        log: &LogEvents,
+        end: End,
+        text: &mut String,
+    ) -> Result<Outcome> {
+        self.judging.end(held, log, end, text)
     }
 }

@@ -20,6 +20,7 @@ mod check_line;
 mod check_object;
 mod contents;
 mod ending;
+mod in_memory;
 mod judge;
 mod judging;
 mod laws;
@@ -32,6 +33,8 @@ pub use as_json::{run_check_json, run_show_json};
 pub use check::{run_check, run_check_complete};
 pub use check_line::{compared_nothing, run_check_line};
 pub use check_object::run_check_object;
+pub use ending::verdict_at;
+pub use in_memory::verdict_of;
 pub use judge::Judge;
 pub use laws::{judging_answers_verdict, one_judging_output, one_shown, some_shown};
 pub use lsp_extract::{

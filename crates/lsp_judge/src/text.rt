@@ -1,11 +1,12 @@
 //! The text that is held after a message of the editor's.
-ghost use Rattle.std.specs.Prelude.{◌≡◌, ◌<◌, ℕ, IfOk, Some, length, string_bytes};
+ghost use Rattle.std.specs.Prelude.{◌≡◌, ◌<◌, ℕ, IfOk, string_bytes};
 ghost use Rattle.lsp_judge.specs.TextRun.{given_as};
 ghost use Rattle.lsp_replay.specs.TextAnswers.{FindsText, WritesText, answer_view};
 ghost use Rattle.lsp_verdict.specs.Runs.{ports, failures_after};
 ghost use Rattle.lsp_verdict.specs.Shown.{AnswersText};
 
-use lsp_frame::{Failed, Limits, Sink, Source};
+use crate::in_memory::Written;
+use lsp_frame::{Limits, Sink, Source};
 use lsp_replay::{HeldText, TextAnswer, pass};
 use lsp_rpc::{Memory, Result};
 use lsp_verdict::{Outcome, RunFault};
@@ -76,31 +77,6 @@ fn in_memory(fault: RunFault) -> RunFault
     }
 }
 
-/// What was written, in memory.
-#[derive(Drop)]
-struct Written {
-    bytes: Vec<u8>,
-    failures: u64,
-}
-
-impl Sink for Written {
-    ghost told = { λ written. record {
-      bytes = Some written.bytes.items;
-      count = length written.bytes.items;
-      failures = written.failures;
-    } };
-
-    fn put(&mut self, bytes: &[u8]) -> Result<usize, Failed> {
-        match self.bytes.extend_from_slice(bytes) {
-            Ok(()) => Ok(bytes.len()),
-            Err(_) => {
-                self.failures = self.failures.saturating_add(1);
-                Err(Failed)
-            }
-        }
-    }
-}
-
 /// The text that was written.
 fn text_of(written: Written) -> Result<String>
     ensures { IfOk result (λ text. string_bytes text ≡ written.bytes.items) }
@@ -117,7 +93,7 @@ fn answer_of(outcome: Outcome, written: String) -> TextAnswer
         Outcome::Done | Outcome::Stream { .. } => TextAnswer::Text(written),
         Outcome::NoDocument => TextAnswer::NoDocument,
         Outcome::TooFew => TextAnswer::TooFew,
-        Outcome::NoDifference => TextAnswer::NoDifference,
+        Outcome::NoDifference | Outcome::Unlike => TextAnswer::NoDifference,
         Outcome::Judged(verdict) => TextAnswer::Refused(verdict),
     }
 }

@@ -7,10 +7,10 @@ ghost use Rattle.lsp_verdict.specs.Runs.{ports};
 use crate::contents::hear_record;
 use crate::ending::verdict_at;
 use lsp_frame::{Format, Limits, Sink, Source};
+use lsp_lined::Lined;
 use lsp_log::{Record, write_head_of, write_record};
 use lsp_replay::{Entry, Events, LogEvents};
 use lsp_rpc::Result;
-use lsp_text::Lined;
 use lsp_verdict::{Completeness, Outcome, RunFault};
 use std::alloc::Global;
 

@@ -1,5 +1,5 @@
 -- What the account that writes a log with its words replaced is told of an event.
-use Rattle.std.proofs.Common.{◌≡◌, ℕ, List, [], ◌∷◌, ◌++◌, Option, Some, None, refl, sym, ap, subst, ◌∙◌}
+use Rattle.std.proofs.Common.{◌≡◌, ℕ, List, [], ◌∷◌, ◌++◌, Option, Some, None, sym, ap, subst, ◌∙◌}
 use Rattle.std.specs.Borrow.{Bor}
 use Rattle.std.specs.Prelude.{if◌then◌else◌, is_some, not, option_map}
 use Rattle.lsp_docs.specs.Documents.{Terms}
@@ -17,22 +17,17 @@ use Rattle.lsp_replay.specs.declared.seen.Fate.TheVariants.{Offends}
 use Rattle.lsp_replay.specs.declared.seen.Seen.{Seen}
 use Rattle.lsp_replay.proofs.AllHeard.{first_after, none_is}
 use Rattle.lsp_replay.proofs.Seeing.{events-push}
-use Rattle.lsp_text.specs.Counted.{Counted}
+use Rattle.lsp_lined.specs.Counted.{Counted}
 use Rattle.lsp_verdict.specs.Event.{Event, call_at, calls, sent_in}
 use Rattle.lsp_verdict.specs.Given.{raw_view}
 use Rattle.lsp_verdict.specs.Heard.{Heard, heard_events}
 use Rattle.lsp_verdict.specs.Offences.{kept_of}
-use Rattle.lsp_verdict.specs.Placed.{Raw, Reads, broken}
-use Rattle.lsp_verdict.specs.Verdict.{Verdict, first_no, offence}
+use Rattle.lsp_verdict.specs.Placed.{Raw, Reads}
+use Rattle.lsp_verdict.specs.Verdict.{first_no, offence}
 use Rattle.lsp_verdict.specs.declared.counts.Counts.{Counts}
-use Rattle.lsp_verdict.specs.declared.raw.Raw as lent
-use Rattle.lsp_verdict.specs.declared.raw.Raw.TheVariants as raws
 use Rattle.lsp_verdict.proofs.Offences.Offending.{all_are_kept, kept_more}
 use Rattle.lsp_redact.specs.Kept.{awaits}
-use Rattle.lsp_redact.specs.Redacting.{EndsBy, apart_at}
-use Rattle.lsp_verdict.specs.declared.outcome.Outcome.TheVariants.{Done, Judged}
-use Rattle.lsp_verdict.specs.declared.verdict.Verdict as code
-use Rattle.lsp_verdict.specs.Given.{verdict_view}
+use Rattle.lsp_redact.specs.Redacting.{apart_at}
 
 module _ (terms : Terms) (before : List Heard) (h : Heard) (m : session.State) (d : docs.State)
     (c : Counts) (s : Seen) (seen : IsSeen m d c s terms before h)
@@ -103,22 +98,3 @@ module _ (terms : Terms) (before : List Heard) (h : Heard) (m : session.State) (
         (made_in (option_map (λ t. t.now) tried))) (sym by) has.1)
         ∙ ap (λ (t : Terms). apart_at t kept event rule) by
         ∙ ap (λ (es : List Event). apart_at terms es event rule) same
-
--- ---- how it ends
-
--- at a fault of the frames
-pub ends_judged : (raw : Raw) (side : _) (r : ℕ) (o : Option Verdict) (v : Verdict)
-    (given : code.Verdict) → raw ≡ broken side r → o ≡ Some v → verdict_view given ≡ v
-    → EndsBy raw o (Judged given)
-ends_judged raw side r o v given raw_is o_is view_is =
-    subst (λ (x : Raw). EndsBy x o (Judged given)) (sym raw_is)
-    (subst (λ (x : Option Verdict). EndsBy (broken side r) x (Judged given)) (sym o_is)
-    (given, refl, view_is))
-
--- at any other event
-pub ends_done : (raw : lent.Raw) (o : Option Verdict)
-    → ((side : _) (rule : _) (rest : _) → raw ≡ raws.Broken side rule rest → ⊥)
-    → EndsBy (raw_view raw) o Done
-ends_done (raws.Content side bytes behind) o not = refl
-ends_done (raws.Broken side rule rest) o not = absurd (not side rule rest refl)
-ends_done (raws.Snapshot version uri text) o not = refl

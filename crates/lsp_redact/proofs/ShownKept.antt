@@ -11,8 +11,9 @@ use Rattle.lsp_verdict.specs.Placed.{Raw}
 use Rattle.lsp_redact.specs.Kept.{Kept, kept_of}
 use Rattle.lsp_redact.specs.Names.{Names, joined, names_in, names_of, no_names}
 use Rattle.lsp_redact.specs.Naming.{Begins, Stands, Writes}
-use Rattle.lsp_redact.specs.Records.{AreRecordsBy, records_of}
+use Rattle.lsp_redact.specs.Records.{records_of}
 use Rattle.lsp_redact.specs.Redacting.{AddsLast, IsBroken, log_by}
+use Rattle.lsp_redact.specs.Shape as shape
 use Rattle.lsp_redact.specs.Shown.{shown_kept}
 use Rattle.lsp_redact.specs.View.{kept_view}
 use Rattle.lsp_redact.specs.declared.kept.Kept as code
@@ -33,9 +34,9 @@ log_more : (most : ℕ) (format : Format) (names : Names) (apart : Option ℕ) (
     (k : Kept) → log_by most format names apart (ks ++ k ∷ [])
     ≡ log_by most format names apart ks ++ spelled most names apart k
 log_more most format names apart ks k =
-    let sh : Kept → Kept = shown_kept names apart in
+    let sh : Kept → shape.Event = shown_kept names apart in
     let text : List Kept → List ℕ = λ xs. flat_map spelling (flat_map (records_of most) (map sh xs)) in
-    ap (λ (rs : List Kept). first_line format ++ flat_map spelling (flat_map (records_of most) rs))
+    ap (λ (rs : List shape.Event). first_line format ++ flat_map spelling (flat_map (records_of most) rs))
     (map-append sh ks (k ∷ []))
     ∙ ap (λ (rs : List Record). first_line format ++ flat_map spelling rs)
     (flat_map-append (records_of most) (map sh ks) (sh k ∷ []))
@@ -114,28 +115,14 @@ pub last_kept : (most : ℕ) (old new : Redaction) (raw : Raw) (rule : ℕ) (o :
     → AddsLast most old new raw rule o before after
 last_kept most old new raw rule o k before after is own =
     subst (λ (x : Option Kept). AddsLast most old new raw rule x before after) (sym is)
-    (record {
-      added = λ past whole stands begins. (
-        records_of most (shown_kept whole old.apart k),
-        refl,
-        own.shows.value past whole stands begins,
-      );
-    })
+    (subst (λ (f : Names → List ℕ). Writes old new (names_of k) f after)
+    (λ j n. before
+    ++ flat_map spelling (sym (append-nil (records_of most (shown_kept n old.apart k))) j)) own)
 
 -- or what stands for it
-pub last_broken : (most : ℕ) (r : Redaction) (raw : Raw) (rule : ℕ) (o : Option Kept)
-    (last : List Record) (before after : List ℕ) → o ≡ None
-    → ((whole : Names) → AreRecordsBy most whole r.apart raw rule None last)
-    → after ≡ before ++ flat_map spelling last → AddsLast most r r raw rule o before after
-last_broken most r raw rule o last before after none are is =
-    subst (λ (x : Option Kept). AddsLast most r r raw rule x before after) (sym none)
-    (record { added = λ past whole stands begins. (last, are whole, is) })
-
--- where nothing is kept of it
 pub last_by : (most : ℕ) (r : Redaction) (raw : Raw) (rule : ℕ) (past : List Event) (event : Event)
     (before after : List ℕ) → kept_of past event ≡ None → IsBroken most raw event rule before after
     → AddsLast most r r raw rule (kept_of past event) before after
 last_by most r raw rule past (message m) before after none is = absurd (cc none)
-last_by most r raw rule past (fault side own) before after none (last, are, is) =
-    last_broken most r raw rule None last before after refl (λ whole. are) is
+last_by most r raw rule past (fault side own) before after none is = writes_same r _ after is
 last_by most r raw rule past (snapshot uri number text) before after none is = absurd (cc none)

@@ -13,9 +13,11 @@ use Rattle.serde_json.specs.declared.value.Value.{Null, Value, the_lemmas}
 use Rattle.lsp_rpc.specs.Act.{Text}
 use Rattle.lsp_rpc.specs.View.{change_view, changes_view, texts_view}
 use Rattle.lsp_types.specs.declared.change.Change as code
-use Rattle.lsp_redact.specs.Messages.{change_data, registration_data, text_data}
+use Rattle.lsp_redact.specs.Messages.{change_data, encoding_data, registration_data}
+use Rattle.lsp_redact.specs.Messages.{registration_of, text_data}
 use Rattle.lsp_redact.specs.Names.{Names, encoding_names, is_encoding, is_known, joined, method_names}
-use Rattle.lsp_redact.specs.Names.{no_names, shown_encoding, shown_method}
+use Rattle.lsp_redact.specs.Names.{no_names, shown_encoding, shown_method, written_encoding}
+use Rattle.lsp_redact.specs.Names.{written_method}
 use Rattle.lsp_redact.specs.Naming.{Shows, Writes}
 use Rattle.lsp_redact.specs.Shown.{shown_change}
 use Rattle.lsp_redact.specs.declared.names.Names as names
@@ -109,26 +111,26 @@ encoding_names-more xs x =
     (filter-append (λ n. not (is_encoding n)) xs (x ∷ []))
 
 encodings_made : (n : Names) (xs : List Text) (x : Text)
-    → map text_data (map (shown_encoding n) (xs ++ x ∷ []))
-    ≡ map text_data (map (shown_encoding n) xs) ++ text_data (shown_encoding n x) ∷ []
+    → map encoding_data (map (shown_encoding n) (xs ++ x ∷ []))
+    ≡ map encoding_data (map (shown_encoding n) xs) ++ encoding_data (shown_encoding n x) ∷ []
 encodings_made n xs x =
-    ap (map text_data) (map-append (shown_encoding n) xs (x ∷ []))
-    ∙ map-append text_data (map (shown_encoding n) xs) (shown_encoding n x ∷ [])
+    ap (map encoding_data) (map-append (shown_encoding n) xs (x ∷ []))
+    ∙ map-append encoding_data (map (shown_encoding n) xs) (shown_encoding n x ∷ [])
 
 pub encodings_more : (texts : List (String Global)) (i : ℕ) (text : String Global)
     (old mid : Redaction) (after : names.Names) (shown more : List Value) (name : String Global)
     (value : Value) → i < length texts → text ≡ get_or texts i text
     → Writes old mid (encoding_names (texts_view (take i texts)))
-    (λ n. map text_data (map (shown_encoding n) (texts_view (take i texts)))) (map view shown)
+    (λ n. map encoding_data (map (shown_encoding n) (texts_view (take i texts)))) (map view shown)
     → Shows mid.names after (encoding_names (string_bytes text ∷ []))
-    (λ n. shown_encoding n (string_bytes text)) (string_bytes name)
+    (λ n. written_encoding (shown_encoding n (string_bytes text))) (string_bytes name)
     → view value ≡ string (string_bytes name) → more ≡ shown ++ value ∷ []
     → Writes old (record mid { names = after }) (encoding_names (texts_view (take (i + 1) texts)))
-    (λ n. map text_data (map (shown_encoding n) (texts_view (take (i + 1) texts))))
+    (λ n. map encoding_data (map (shown_encoding n) (texts_view (take (i + 1) texts))))
     (map view more)
 encodings_more texts i text old mid after shown more name value lt is before own value_is added =
-    written_more encoding_names (λ n xs. map text_data (map (shown_encoding n) xs))
-    (λ n x. text_data (shown_encoding n x)) encoding_names-more encodings_made texts i text old mid
+    written_more encoding_names (λ n xs. map encoding_data (map (shown_encoding n) xs))
+    (λ n x. encoding_data (shown_encoding n x)) encoding_names-more encodings_made texts i text old mid
     (record mid { names = after }) shown more value lt is before
     (record { same = refl; shows = shows_made text_data (view value) value_is own }) added
 
@@ -154,8 +156,8 @@ pub registrations_more : (texts : List (String Global)) (i : ℕ) (text : String
     (λ n. map registration_data (map (shown_method n) (texts_view (take i texts))))
     (map view shown)
     → Shows mid.names after (method_names (string_bytes text ∷ []))
-    (λ n. shown_method n (string_bytes text)) (string_bytes name)
-    → view value ≡ registration_data (string_bytes name) → more ≡ shown ++ value ∷ []
+    (λ n. written_method (shown_method n (string_bytes text))) (string_bytes name)
+    → view value ≡ registration_of (string_bytes name) → more ≡ shown ++ value ∷ []
     → Writes old (record mid { names = after }) (method_names (texts_view (take (i + 1) texts)))
     (λ n. map registration_data (map (shown_method n) (texts_view (take (i + 1) texts))))
     (map view more)
@@ -163,4 +165,4 @@ registrations_more texts i text old mid after shown more name value lt is before
     written_more method_names (λ n xs. map registration_data (map (shown_method n) xs))
     (λ n x. registration_data (shown_method n x)) method_names-more methods_made texts i text old
     mid (record mid { names = after }) shown more value lt is before
-    (record { same = refl; shows = shows_made registration_data (view value) value_is own }) added
+    (record { same = refl; shows = shows_made registration_of (view value) value_is own }) added

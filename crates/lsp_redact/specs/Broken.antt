@@ -1,12 +1,45 @@
 -- What stands for a content that is no message, or whose params do not have the shape that its
 -- method asks for.
-use Rattle.std.specs.Prelude.{◌≡◌, ◌==◌, ℕ, List, [], if◌then◌else◌, codes}
+use Rattle.std.specs.Prelude.{◌==◌, ℕ, List, [], if◌then◌else◌, codes, Option, Some, None}
+use Rattle.std.specs.Prelude.{option_and_then}
 use Rattle.serde_json.specs.Data.{Data, null, string, object, no_members, member}
+use Rattle.serde_json.specs.Read.{read}
 use Rattle.serde_json.specs.Written.{compact_text}
+use Rattle.lsp_rpc.specs.Act.{Text}
 use Rattle.lsp_rpc.specs.Message.{Message, request, notification, response}
-use Rattle.lsp_rpc.specs.Reading.{Reads}
+use Rattle.lsp_rpc.specs.Reading.{message_in, parts_of}
 use Rattle.lsp_types.specs.declared.rules.TheConstants as rules
 use Rattle.lsp_redact.specs.Messages.{natural, version_data}
+use Rattle.lsp_redact.specs.Names.{known_methods, place_in, written_method}
+use Rattle.lsp_redact.specs.Shape.{Name, Refused, bare_notification, bare_request, breaks, known}
+use Rattle.lsp_redact.specs.Shape.{no_call}
+
+-- ---- what is left of it
+
+-- a method whose params are read is one that the rules know
+abbrev pub bare_method : Text → Name
+bare_method method = known (place_in known_methods method)
+
+-- of a call whose params are bad its method
+abbrev pub bare_of : Message → Refused
+bare_of (request id method params) = bare_request (bare_method method)
+bare_of (notification method params) = bare_notification (bare_method method)
+bare_of (response id reply) = no_call
+
+abbrev pub bare_if : Option Message → Refused
+bare_if None = no_call
+bare_if (Some called) = bare_of called
+
+-- the message that a content is
+abbrev pub spoken : List ℕ → Option Message
+spoken content = option_and_then (λ d. message_in (parts_of d)) (read content)
+
+-- **what is left of a content that breaks this rule of 201 to 209**
+abbrev pub left_of : List ℕ → ℕ → Refused
+left_of content rule =
+    if rule == rules.BAD_METHOD_PARAMS then bare_if (spoken content) else breaks rule
+
+-- ---- what is written of it
 
 -- a content that breaks this rule of 201 to 208, and no lesser one
 abbrev pub broken_content : ℕ → List ℕ
@@ -22,16 +55,21 @@ broken_content rule =
     then codes "{\"error\":null,\"id\":0,\"jsonrpc\":\"2.0\"}"
     else []))))))
 
--- a call of the same method without params; a request has the id 0
-abbrev pub bare_call : Message → Data
-bare_call (request id method params) = object (member (codes "id") (natural 0)
+-- a call of this method without params; a request has the id 0
+abbrev pub bare_request_data : Text → Data
+bare_request_data method = object (member (codes "id") (natural 0)
     (member (codes "jsonrpc") version_data (member (codes "method") (string method) no_members)))
-bare_call (notification method params) = object
-    (member (codes "jsonrpc") version_data (member (codes "method") (string method) no_members))
-bare_call (response id reply) = null
 
--- **this stands for a content that breaks this rule of 201 to 209**
-pub record Replaces (content : List ℕ) (rule : ℕ) (text : List ℕ) : Type 0 where
-  pub of_content : (rule ≡ rules.BAD_METHOD_PARAMS → ⊥) → text ≡ broken_content rule
-  pub of_params : rule ≡ rules.BAD_METHOD_PARAMS
-      → (called : Message) × Reads content called × (text ≡ compact_text (bare_call called))
+abbrev pub bare_notification_data : Text → Data
+bare_notification_data method = object
+    (member (codes "jsonrpc") version_data (member (codes "method") (string method) no_members))
+
+abbrev pub bare_data : Refused → Data
+bare_data (bare_request method) = bare_request_data (written_method method)
+bare_data (bare_notification method) = bare_notification_data (written_method method)
+bare_data _ = null
+
+-- **what is written of a content that is refused**
+abbrev pub refused_text : Refused → List ℕ
+refused_text (breaks rule) = broken_content rule
+refused_text left = compact_text (bare_data left)

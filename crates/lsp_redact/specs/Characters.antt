@@ -4,6 +4,8 @@ use Rattle.std.specs.Prelude.{if◌then◌else◌, Option, Some, None, chars, en
 use Rattle.lsp_types.specs.declared.line_ends.LineEnds.{LineEnds}
 use Rattle.lsp_text.specs.SameText.{compared}
 use Rattle.lsp_facts.specs.TwoTexts.{TwoTexts}
+use Rattle.lsp_redact.specs.Shape as shape
+use Rattle.lsp_redact.specs.Shape.{Character, mark, of_kind}
 use Rattle.lsp_redact.specs.declared.characters.Kind.{Kind}
 use Rattle.lsp_redact.specs.declared.characters.Kind.TheVariants.{Small, Capital, Digit, Other}
 use Rattle.lsp_redact.specs.declared.characters.Kind.TheVariants.{TwoBytes, ThreeBytes, FourBytes}
@@ -26,10 +28,32 @@ kind_of c =
     else (if nat_lt c 0x800 then TwoBytes
     else (if nat_lt c 0x1_0000 then ThreeBytes else FourBytes))
 
--- ---- characters
+-- ---- what is left of a character
+
+abbrev pub is_apart : Option ℕ → ℕ → Bool
+is_apart None c = false
+is_apart (Some other) c = other == c
+
+abbrev pub left_of : Kind → Bool → ℕ → Character
+left_of Other is_apart c = mark c
+left_of kind is_apart c = of_kind kind is_apart
+
+-- **what is left of a character**, where this one must stay apart from the others
+abbrev pub character_of : Option ℕ → ℕ → Character
+character_of apart c = left_of (kind_of c) (is_apart apart c) c
+
+-- **what is left of a text**
+abbrev pub text_of : Option ℕ → List ℕ → shape.Text
+text_of apart text = map (character_of apart) text
+
+-- of the bytes of a text
+abbrev pub bytes_left : Option ℕ → List ℕ → shape.Text
+bytes_left apart bytes = text_of apart (chars bytes)
+
+-- ---- what is written of it
 
 -- what a kind is shown by, and what the character of it that must stay apart is shown by: x and y,
--- X and Y, 0 and 1, é and è, 一 and 二, 😀 and 😁. All else in ASCII is shown as it is
+-- X and Y, 0 and 1, é and è, 一 and 二, 😀 and 😁
 abbrev pub shown_by : Kind → Option (ℕ × ℕ)
 shown_by Small = Some (120, 121)
 shown_by Capital = Some (88, 89)
@@ -39,26 +63,28 @@ shown_by ThreeBytes = Some (0x4E00, 0x4E8C)
 shown_by FourBytes = Some (0x1_F600, 0x1_F601)
 shown_by Other = None
 
-abbrev pub is_apart : Option ℕ → ℕ → Bool
-is_apart None c = false
-is_apart (Some other) c = other == c
+abbrev pub one_of : Option (ℕ × ℕ) → Bool → ℕ
+one_of None is_apart = 32
+one_of (Some pair) false = pair.0
+one_of (Some pair) true = pair.1
 
-abbrev pub one_of : Option (ℕ × ℕ) → Bool → ℕ → ℕ
-one_of None is_apart c = c
-one_of (Some pair) false c = pair.0
-one_of (Some pair) true c = pair.1
+-- a mark as it is; a letter, a digit and what is beyond ASCII are none
+abbrev pub mark_by : Kind → ℕ → ℕ
+mark_by Other c = c
+mark_by _ c = 32
 
--- **what a character is shown by**, where this one must stay apart from the others
-abbrev pub shown_as : Option ℕ → ℕ → ℕ
-shown_as apart c = one_of (shown_by (kind_of c)) (is_apart apart c) c
+-- **what is written of a character**
+abbrev pub written_character : Character → ℕ
+written_character (of_kind kind is_apart) = one_of (shown_by kind) is_apart
+written_character (mark c) = mark_by (kind_of c) c
 
--- **a text by what its characters are shown by**
-abbrev pub shown_text : Option ℕ → List ℕ → List ℕ
-shown_text apart text = map (shown_as apart) text
+-- **of a text, as bytes**
+abbrev pub written_text : shape.Text → List ℕ
+written_text text = encode_utf8_all (map written_character text)
 
--- the same of the bytes of a text
+-- of the bytes of a text that is read
 abbrev pub shown_bytes : Option ℕ → List ℕ → List ℕ
-shown_bytes apart bytes = encode_utf8_all (shown_text apart (chars bytes))
+shown_bytes apart bytes = written_text (bytes_left apart bytes)
 
 -- ---- the character by which two texts stay apart
 

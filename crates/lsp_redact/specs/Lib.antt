@@ -1,3 +1,4 @@
+pub mod Shape
 pub mod Characters
 pub mod Kept
 pub mod View
@@ -9,9 +10,8 @@ pub mod Messages
 pub mod Shown
 pub mod Broken
 pub mod Records
+pub mod Check
 pub mod Redacting
 pub mod Keeping
 pub mod Redacted
-pub mod ShownEdits
-pub mod ShownCalls
 pub mod Laws

@@ -1,21 +1,22 @@
--- What is written of a message: a JSON value of what is kept of it, its members in the order of
+-- What is written of a message: a JSON value of what is left of it, its members in the order of
 -- their names. (JSON-RPC 2.0, sections 4 and 5; LSP 3.17.)
 use Rattle.std.specs.Prelude.{ℕ, ℤ, List, [], map, Option, Some, None, option_map, codes}
+use Rattle.std.specs.Prelude.{decimal}
 use Rattle.serde_json.specs.Data.{Data, null, number, string, array, object, unsigned}
 use Rattle.serde_json.specs.Data.{Members, no_members, member, put}
 use Rattle.serde_json.specs.Find.{of_integer}
 use Rattle.serde_json.specs.View.{items_of}
 use Rattle.serde_json.specs.Written.{compact_text}
-use Rattle.lsp_rpc.specs.Act as act
-use Rattle.lsp_rpc.specs.Act.{Act, Change, Offer, Picked, Text}
-use Rattle.lsp_rpc.specs.Ident as ident
-use Rattle.lsp_rpc.specs.Ident.{Ident}
+use Rattle.lsp_rpc.specs.Act.{Text}
 use Rattle.lsp_types.specs.declared.change.SyncKind.{SyncKind}
 use Rattle.lsp_types.specs.declared.change.SyncKind.TheVariants.{Nothing, Full, Incremental}
 use Rattle.lsp_types.specs.declared.position.Position.{Position}
 use Rattle.lsp_types.specs.declared.position.Span.{Span}
-use Rattle.lsp_redact.specs.Kept.{Head, request, notification, response}
-use Rattle.lsp_redact.specs.Kept.{Reply, picks, nothing, failed}
+use Rattle.lsp_redact.specs.Characters.{written_text}
+use Rattle.lsp_redact.specs.Names.{written_encoding, written_method, written_uri}
+use Rattle.lsp_redact.specs.Shape as shape
+use Rattle.lsp_redact.specs.Shape.{Change, Head, Id, Name, Offer, Params, Picked, Reply, as_number}
+use Rattle.lsp_redact.specs.Shape.{as_text, failed, notification, nothing, picks, request, response}
 
 -- ---- words for values
 
@@ -43,9 +44,9 @@ put_if name None members = members
 put_if name (Some value) members = put name value members
 
 -- an id as a value
-abbrev pub id_data : Ident → Data
-id_data (ident.number z) = integer z
-id_data (ident.text t) = string t
+abbrev pub id_data : Id → Data
+id_data (as_number k) = natural k
+id_data (as_text k) = string (decimal k)
 
 abbrev pub text_data : Text → Data
 text_data t = string t
@@ -62,8 +63,11 @@ abbrev pub offered_of : Option Data → Data
 offered_of None = object no_members
 offered_of (Some names) = one (codes "general") (one (codes "positionEncodings") names)
 
-abbrev pub offered_data : Option (List Text) → Data
-offered_data offered = offered_of (option_map (λ names. list (map text_data names)) offered)
+abbrev pub encoding_data : Name → Data
+encoding_data name = text_data (written_encoding name)
+
+abbrev pub offered_data : Option (List Name) → Data
+offered_data offered = offered_of (option_map (λ names. list (map encoding_data names)) offered)
 
 -- the params with these capabilities and this token as values
 abbrev pub offer_of : Data → Option Data → Data
@@ -81,16 +85,19 @@ picked_of encoding kind = one (codes "capabilities") (object
     (member (codes "textDocumentSync") (natural kind) no_members)))
 
 abbrev pub picked_data : Picked → Data
-picked_data picked = picked_of picked.encoding (kind_number picked.kind)
+picked_data picked = picked_of (written_encoding picked.encoding) (kind_number picked.kind)
 
-abbrev pub registration_data : Text → Data
-registration_data method = one (codes "method") (text_data method)
+abbrev pub registration_of : Text → Data
+registration_of method = one (codes "method") (text_data method)
+
+abbrev pub registration_data : Name → Data
+registration_data method = registration_of (written_method method)
 
 -- the params with these registrations as a value
 abbrev pub registered_of : Data → Data
 registered_of registrations = one (codes "registrations") registrations
 
-abbrev pub registered_data : List Text → Data
+abbrev pub registered_data : List Name → Data
 registered_data methods = registered_of (list (map registration_data methods))
 
 -- ---- documents
@@ -103,11 +110,15 @@ abbrev pub span_data : Span → Data
 span_data span = object (member (codes "end") (position_data span.second)
     (member (codes "start") (position_data span.first) no_members))
 
+-- with this text
+abbrev pub change_of : Option Span → Option ℤ → Text → Data
+change_of span range_length text = object
+    (member_if (codes "range") (option_map span_data span)
+    (member_if (codes "rangeLength") (option_map integer range_length)
+    (member (codes "text") (text_data text) no_members)))
+
 abbrev pub change_data : Change → Data
-change_data change = object
-    (member_if (codes "range") (option_map span_data change.span)
-    (member_if (codes "rangeLength") (option_map integer change.range_length)
-    (member (codes "text") (text_data change.text) no_members)))
+change_data change = change_of change.span change.range_length (written_text change.text)
 
 abbrev pub opened_data : Text → ℤ → Text → Data
 opened_data uri version text = one (codes "textDocument") (object
@@ -139,21 +150,20 @@ saved_data uri text = object
 
 -- ---- messages
 
--- the params of a message that means this
-abbrev pub params_of : Act → Option Data
-params_of (act.initialize offer) = Some (offer_data offer)
-params_of act.initialized = None
-params_of act.shutdown = None
-params_of act.exit = None
-params_of (act.did_open uri version text) = Some (opened_data uri version text)
-params_of (act.did_change uri version changes) = Some (changed_data uri version changes)
-params_of (act.did_close uri) = Some (closed_data uri)
-params_of (act.did_save uri text) = Some (saved_data uri text)
-params_of (act.cancel id) = Some (one (codes "id") (id_data id))
-params_of (act.progress token) = Some (one (codes "token") (id_data token))
-params_of act.early = None
-params_of (act.register methods) = Some (registered_data methods)
-params_of act.other = None
+-- params as a value, where they were read
+abbrev pub params_of : Params → Option Data
+params_of (shape.initialize offer) = Some (offer_data offer)
+params_of (shape.did_open uri version text) =
+    Some (opened_data (written_uri uri) version (written_text text))
+params_of (shape.did_change uri version changes) =
+    Some (changed_data (written_uri uri) version changes)
+params_of (shape.did_close uri) = Some (closed_data (written_uri uri))
+params_of (shape.did_save uri text) =
+    Some (saved_data (written_uri uri) (option_map written_text text))
+params_of (shape.cancel id) = Some (one (codes "id") (id_data id))
+params_of (shape.progress token) = Some (one (codes "token") (id_data token))
+params_of (shape.register methods) = Some (registered_data methods)
+params_of shape.unread = None
 
 abbrev pub version_data : Data
 version_data = string (codes "2.0")
@@ -169,10 +179,11 @@ call_members id method params =
     (member (codes "method") (text_data method)
     (member_if (codes "params") params no_members)))
 
-abbrev pub called_members : Option Ident → Text → Option Data → Members
-called_members id method params = call_members (option_map id_data id) method params
+abbrev pub called_members : Option Id → Name → Option Data → Members
+called_members id method params =
+    call_members (option_map id_data id) (written_method method) params
 
-abbrev pub answered_data : Option Ident → Data
+abbrev pub answered_data : Option Id → Data
 answered_data None = null
 answered_data (Some id) = id_data id
 
@@ -195,16 +206,16 @@ reply_data (failed code) = error_data code
 abbrev pub answer_members : Data → Text → Data → Members
 answer_members id name value = put name value (member (codes "id") id version_member)
 
-abbrev pub response_members : Option Ident → Reply → Members
+abbrev pub response_members : Option Id → Reply → Members
 response_members id reply =
     answer_members (answered_data id) (reply_name reply) (reply_data reply)
 
--- the members of a message that means this
-abbrev pub members_of : Head → Act → Members
-members_of (request id method) act = called_members (Some id) method (params_of act)
-members_of (notification method) act = called_members None method (params_of act)
-members_of (response id reply) act = response_members id reply
+-- the members of a message with these params
+abbrev pub members_of : Head → Params → Members
+members_of (request id method) params = called_members (Some id) method (params_of params)
+members_of (notification method) params = called_members None method (params_of params)
+members_of (response id reply) params = response_members id reply
 
--- **the content of a message that means this**
-abbrev pub content_of : Head → Act → List ℕ
-content_of head act = compact_text (object (members_of head act))
+-- **the content of a message with these params**
+abbrev pub content_of : Head → Params → List ℕ
+content_of head params = compact_text (object (members_of head params))

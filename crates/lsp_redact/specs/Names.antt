@@ -1,6 +1,7 @@
 -- What names are shown by: the numbers by which they first come in a log.
-use Rattle.std.specs.Prelude.{ℕ, ◌+◌, List, [], ◌∷◌, ◌++◌, map, filter, Bool, not}
-use Rattle.std.specs.Prelude.{if◌then◌else◌, Option, Some, None, codes, decimal}
+use Rattle.std.specs.Prelude.{ℕ, ◌+◌, List, [], ◌∷◌, ◌++◌, map, filter, get_or, Bool, true, false}
+use Rattle.std.specs.Prelude.{not, Option, Some, None, codes, decimal, suc, if◌then◌else◌}
+use Rattle.std.specs.Fmt.{signed_decimal}
 use Rattle.std.specs.List.{list_any, prefix_len}
 use Rattle.std.specs.Str.{bytes_eq}
 use Rattle.lsp_rpc.specs.Act as act
@@ -11,6 +12,8 @@ use Rattle.lsp_rpc.specs.Params.{Row, editor_requests, editor_notifications, ser
 use Rattle.lsp_rpc.specs.Params.{server_notifications}
 use Rattle.lsp_redact.specs.Kept.{Head, request, notification, response, Kept, message, snapshot}
 use Rattle.lsp_redact.specs.Kept.{Reply, picks, nothing, failed}
+use Rattle.lsp_redact.specs.Shape as shape
+use Rattle.lsp_redact.specs.Shape.{Name, known, unknown}
 
 -- ---- numbers
 
@@ -46,7 +49,7 @@ is_encoding name = list_any (bytes_eq name) known_encodings
 
 -- ---- the names in what is kept
 
--- in order, each as often as it comes: URIs, texts that are ids or tokens, and names of methods and
+-- in order, each as often as it comes: URIs, the texts of ids and tokens, and names of methods and
 -- of encodings that no rule knows
 pub record Names : Type 0 where
   pub uris : List Text
@@ -68,8 +71,9 @@ joined a b = record {
 abbrev pub uri_names : Text → Names
 uri_names uri = record no_names { uris = uri ∷ [] }
 
+-- that of a number is the text that writes it
 abbrev pub id_names : Ident → Names
-id_names (ident.number z) = no_names
+id_names (ident.number z) = record no_names { ids = signed_decimal z ∷ [] }
 id_names (ident.text t) = record no_names { ids = t ∷ [] }
 
 abbrev pub given_names : Option Ident → Names
@@ -131,23 +135,47 @@ abbrev pub names_in : List Kept → Names
 names_in [] = no_names
 names_in (kept ∷ later) = joined (names_of kept) (names_in later)
 
--- ---- what they are shown by
+-- ---- what is left of them
 
-abbrev pub shown_uri : Names → Text → Text
-shown_uri names uri = codes "file:///" ++ decimal (number_of names.uris uri)
+-- a URI is its number
+abbrev pub uri_of : Names → Text → ℕ
+uri_of names uri = number_of names.uris uri
 
--- an id or a token: a number as it is
-abbrev pub shown_id : Names → Ident → Ident
-shown_id names (ident.number z) = ident.number z
-shown_id names (ident.text t) = ident.text (decimal (number_of names.ids t))
+-- the place of a name among those that are known, from 0
+abbrev pub place_in : List Text → Text → ℕ
+place_in [] name = 0
+place_in (other ∷ names) name = if bytes_eq name other then 0 else suc (place_in names name)
 
--- one that the rules know as it is
-abbrev pub shown_method : Names → Text → Text
-shown_method names method =
-    if is_known method then method
-    else codes "method/" ++ decimal (number_of names.methods method)
+-- one that the rules know by its place, any other by its number
+abbrev pub shown_id : Names → Ident → shape.Id
+shown_id names (ident.number z) = shape.as_number (number_of names.ids (signed_decimal z))
+shown_id names (ident.text t) = shape.as_text (number_of names.ids t)
 
-abbrev pub shown_encoding : Names → Text → Text
-shown_encoding names name =
-    if is_encoding name then name
-    else codes "encoding-" ++ decimal (number_of names.encodings name)
+abbrev pub name_by : Bool → ℕ → ℕ → Name
+name_by true place number = known place
+name_by false place number = unknown number
+
+abbrev pub shown_method : Names → Text → Name
+shown_method names method = name_by (is_known method) (place_in known_methods method)
+    (number_of names.methods method)
+
+abbrev pub shown_encoding : Names → Text → Name
+shown_encoding names name = name_by (is_encoding name) (place_in known_encodings name)
+    (number_of names.encodings name)
+
+-- ---- what is written of them
+
+-- the name at a place among those that are known
+abbrev pub name_at : List Text → ℕ → Text
+name_at names place = get_or names place []
+
+abbrev pub written_uri : ℕ → Text
+written_uri number = codes "file:///" ++ decimal number
+
+abbrev pub written_method : Name → Text
+written_method (known place) = name_at known_methods place
+written_method (unknown number) = codes "method/" ++ decimal number
+
+abbrev pub written_encoding : Name → Text
+written_encoding (known place) = name_at known_encodings place
+written_encoding (unknown number) = codes "encoding-" ++ decimal number

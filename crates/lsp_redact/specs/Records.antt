@@ -1,17 +1,16 @@
--- What is written of an event, as records of a log.
-use Rattle.std.specs.Prelude.{◌≡◌, ℕ, ◌/◌, List, [], ◌∷◌, map, max, Option, Some, None, chars}
-use Rattle.std.specs.Prelude.{encode_utf8_all}
+-- What is written of a log: records.
+use Rattle.std.specs.Prelude.{ℕ, ◌/◌, List, [], ◌∷◌, ◌++◌, map, max, chars, encode_utf8_all}
+use Rattle.std.specs.List.{flat_map}
 use Rattle.lsp_extract.specs.Normal.{cut}
 use Rattle.lsp_frame.specs.Bounds.{Bounds}
 use Rattle.lsp_frame.specs.Sink.{canonical}
-use Rattle.lsp_log.specs.Log.{Record, chunk, shown}
+use Rattle.lsp_log.specs.Log.{Record, chunk, first_line, shown, spelling}
 use Rattle.lsp_types.specs.declared.side.Side.{Side}
-use Rattle.lsp_verdict.specs.Placed.{Raw, content, broken, show}
-use Rattle.lsp_redact.specs.Broken.{Replaces}
-use Rattle.lsp_redact.specs.Kept.{Kept, message, snapshot}
+use Rattle.lsp_redact.specs.Broken.{refused_text}
+use Rattle.lsp_redact.specs.Characters.{written_text}
 use Rattle.lsp_redact.specs.Messages.{content_of}
-use Rattle.lsp_redact.specs.Names.{Names}
-use Rattle.lsp_redact.specs.Shown.{shown_kept}
+use Rattle.lsp_redact.specs.Names.{written_uri}
+use Rattle.lsp_redact.specs.Shape.{Event, Shape, message, refused, snapshot}
 
 -- the most characters of a record: they have no more bytes than a record may have
 abbrev pub most_of : Bounds → ℕ
@@ -25,20 +24,14 @@ pieces most text = map encode_utf8_all (cut most (chars text))
 abbrev pub content_records : ℕ → Side → List ℕ → List Record
 content_records most side bytes = map (chunk side) (pieces most (canonical bytes))
 
--- **the records of what is kept of an event**
-abbrev pub records_of : ℕ → Kept → List Record
-records_of most (message side head act) = content_records most side (content_of head act)
-records_of most (snapshot uri number text) = shown number uri (encode_utf8_all text) ∷ []
+-- the records of what is left of an event
+abbrev pub records_of : ℕ → Event → List Record
+records_of most (message side head params) = content_records most side (content_of head params)
+records_of most (refused side content) = content_records most side (refused_text content)
+records_of most (snapshot uri number text) =
+    shown number (written_uri uri) (written_text text) ∷ []
 
--- those of a content of a side that breaks this rule, of 201 to 209
-abbrev pub AreBroken : ℕ → Raw → ℕ → List Record → Type 0
-AreBroken most (content side bytes) rule records =
-    (text : List ℕ) × Replaces bytes rule text × (records ≡ content_records most side text)
-AreBroken most (broken side rule) _ records = records ≡ []
-AreBroken most (show number uri text) rule records = ⊥
-
--- those of an event of which this is kept; a fault of the frames has none
-abbrev pub AreRecordsBy : ℕ → Names → Option ℕ → Raw → ℕ → Option Kept → List Record → Type 0
-AreRecordsBy most names apart raw rule (Some kept) records =
-    records ≡ records_of most (shown_kept names apart kept)
-AreRecordsBy most names apart raw rule None records = AreBroken most raw rule records
+-- **what is written of what is left of a log**, in records of so many characters
+abbrev pub written : ℕ → Shape → List ℕ
+written most shape = first_line shape.format
+    ++ flat_map spelling (flat_map (records_of most) shape.events)

@@ -13,9 +13,10 @@ ghost use Rattle.lsp_verdict.specs.Verdict.{offence};
 
 use lsp_docs::{Call, Tried};
 use lsp_facts::{TwoTexts, texts_at};
+use lsp_lined::Lined;
 use lsp_replay::Events;
 use lsp_rpc::Result;
-use lsp_text::{Lined, compared_lines};
+use lsp_text::compared_lines;
 use lsp_types::LineEnds;
 use std::alloc::Global;
 

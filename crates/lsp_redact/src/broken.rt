@@ -1,12 +1,14 @@
 //! What stands for a content that is no message, or whose params do not have their shape.
 ghost use Rattle.std.specs.Prelude.{◌≡◌, IfOk, string_bytes};
 ghost use Rattle.lsp_redact.specs.Broken as spec;
-ghost use Rattle.lsp_redact.specs.Broken.{Replaces};
+ghost use Rattle.lsp_redact.specs.Broken.{bare_method, bare_of, left_of, refused_text};
+ghost use Rattle.lsp_redact.specs.Names.{written_method};
 ghost use Rattle.lsp_rpc.specs.View.{message_view};
 ghost use Rattle.lsp_types.specs.declared.side.Side.{Side};
 ghost use Rattle.lsp_rpc.specs.Params.{IsRefused};
 ghost use Rattle.serde_json.specs.View.{view};
 
+use crate::names::is_known;
 use lsp_rpc::{Message, Result, RpcFault, read};
 use lsp_types::rules;
 use serde_json::{Value, json};
@@ -28,15 +30,24 @@ fn broken_content(rule: u16) -> &'static str
     }
 }
 
+/// A method that the rules name, as each is whose params are read; nothing of any other.
+fn known_method(method: &str) -> &str
+    ensures { result.now ≡ written_method (bare_method method.now) }
+{
+    if is_known(method) { method } else { "" }
+}
+
 /// A call of a method without its params.
 fn bare_call(alloc: Global, message: &Message) -> Result<Value>
-    ensures { IfOk result (λ value. view value ≡ spec.bare_call (message_view message.now)) }
+    ensures { IfOk result (λ value. view value ≡ spec.bare_data (bare_of (message_view message.now))) }
 {
     match message {
         Message::Request { method, .. } => {
+            let method = known_method(method.as_str());
             Ok(json!(in alloc; {"id": 0u32, "jsonrpc": "2.0", "method": method})?)
         }
         Message::Notification { method, .. } => {
+            let method = known_method(method.as_str());
             Ok(json!(in alloc; {"jsonrpc": "2.0", "method": method})?)
         }
         Message::Response { .. } => Ok(Value::Null),
@@ -47,7 +58,7 @@ fn bare_call(alloc: Global, message: &Message) -> Result<Value>
 /// stays, and of all else nothing.
 pub(crate) fn broken_text(alloc: Global, content: &[u8], rule: u16) -> Result<String>
     ensures { IfOk result (λ text. (side : Side) → IsRefused side content.now rule
-        → Replaces content.now rule (string_bytes text)) }
+        → string_bytes text ≡ refused_text (left_of content.now rule)) }
 {
     if rule != rules::BAD_METHOD_PARAMS {
         let text = String::from_str(alloc, broken_content(rule))?;

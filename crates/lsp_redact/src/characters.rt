@@ -1,7 +1,7 @@
 //! Characters as others of their kind.
 ghost use Rattle.std.specs.Prelude.{◌≡◌, ◌<◌, IfOk, string_bytes};
 ghost use Rattle.lsp_redact.specs.Characters as spec;
-ghost use Rattle.lsp_redact.specs.Characters.{shown_bytes};
+ghost use Rattle.lsp_redact.specs.Characters.{character_of, shown_bytes, written_character};
 
 use lsp_rpc::Result;
 use std::alloc::Global;
@@ -49,7 +49,7 @@ fn ascii_kind(character: char) -> Kind
 }
 
 /// What a kind is shown by, and what the one character of it is shown by that must stay apart from
-/// the others.
+/// the others. All else in ASCII is shown as it is.
 fn shown_by(kind: Kind) -> Option<(char, char)>
     ensures { result ≡ spec.shown_by kind }
 {
@@ -66,7 +66,7 @@ fn shown_by(kind: Kind) -> Option<(char, char)>
 
 /// What a character is shown by, where this one must stay apart from the others.
 fn shown_as(character: char, apart: Option<char>) -> char
-    ensures { result ≡ spec.shown_as apart character }
+    ensures { result ≡ written_character (character_of apart character) }
 {
     let Some((usual, other)) = shown_by(kind_of(character)) else {
         return character;

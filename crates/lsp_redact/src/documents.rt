@@ -1,11 +1,12 @@
 //! What stays of the messages about documents, as JSON (LSP 3.17, "Text Document Synchronization").
 ghost use Rattle.std.specs.Prelude.{◌≡◌, IfOk, map, option_map, string_bytes};
-ghost use Rattle.lsp_redact.specs.Characters.{shown_bytes};
-ghost use Rattle.lsp_redact.specs.Messages.{change_data, changed_data, changed_of, closed_data};
+ghost use Rattle.lsp_redact.specs.Characters.{bytes_left, shown_bytes, written_text};
+ghost use Rattle.lsp_redact.specs.Messages.{change_data, change_of, changed_data, changed_of};
+ghost use Rattle.lsp_redact.specs.Messages.{closed_data};
 ghost use Rattle.lsp_redact.specs.Messages.{identifier_data, integer, list, opened_data};
 ghost use Rattle.lsp_redact.specs.Messages.{position_data};
 ghost use Rattle.lsp_redact.specs.Messages.{saved_data, span_data, text_data};
-ghost use Rattle.lsp_redact.specs.Names.{shown_uri, uri_names};
+ghost use Rattle.lsp_redact.specs.Names.{uri_names, uri_of, written_uri};
 ghost use Rattle.lsp_redact.specs.Naming.{Writes};
 ghost use Rattle.lsp_redact.specs.Shown.{shown_change};
 ghost use Rattle.lsp_rpc.specs.View.{change_view, changes_view};
@@ -58,11 +59,8 @@ fn change_value(
     range_length: Option<i32>,
     text: String,
 ) -> Result<Value>
-    ensures { IfOk result (λ shown. view shown ≡ change_data (record {
-      span = span;
-      range_length = range_length;
-      text = string_bytes text;
-    })) }
+    ensures { IfOk result (λ shown. view shown
+        ≡ change_of span range_length (string_bytes text)) }
 {
     let mut members = no_members(alloc);
     let range = range_value(alloc, span)?;
@@ -135,7 +133,7 @@ impl Redaction {
     /// The params of a `didOpen`.
     pub(crate) fn opened(&mut self, uri: &str, version: i32, text: &str) -> Result<Value>
         ensures { IfOk result (λ shown. Writes self.old self.new (uri_names uri.now)
-            (λ n. opened_data (shown_uri n uri.now) version
+            (λ n. opened_data (written_uri (uri_of n uri.now)) version
             (shown_bytes self.old.apart text.now)) (view shown)) }
     {
         let name = self.names.uri(uri)?;
@@ -170,7 +168,7 @@ impl Redaction {
     /// The params of a `didChange`.
     pub(crate) fn changed(&mut self, uri: &str, version: i32, changes: &[Change]) -> Result<Value>
         ensures { IfOk result (λ shown. Writes self.old self.new (uri_names uri.now)
-            (λ n. changed_data (shown_uri n uri.now) version
+            (λ n. changed_data (written_uri (uri_of n uri.now)) version
             (map (shown_change self.old.apart) (changes_view changes.now))) (view shown)) }
     {
         let name = self.names.uri(uri)?;
@@ -182,7 +180,7 @@ impl Redaction {
     /// The params of a `didClose`.
     pub(crate) fn closed(&mut self, uri: &str) -> Result<Value>
         ensures { IfOk result (λ shown. Writes self.old self.new (uri_names uri.now)
-            (λ n. closed_data (shown_uri n uri.now)) (view shown)) }
+            (λ n. closed_data (written_uri (uri_of n uri.now))) (view shown)) }
     {
         let name = self.names.uri(uri)?;
         let params = closed_value(self.alloc, name)?;
@@ -192,8 +190,8 @@ impl Redaction {
     /// The text of a save, where it includes one.
     fn saved_text(&self, text: Option<&String>) -> Result<Option<String>>
         ensures { IfOk result (λ shown. option_map string_bytes shown
-            ≡ option_map (shown_bytes self.now.apart)
-            (option_map (λ t. string_bytes t.now) text.entry)) }
+            ≡ option_map written_text (option_map (bytes_left self.now.apart)
+            (option_map (λ t. string_bytes t.now) text.entry))) }
     {
         match text {
             Some(text) => Ok(Some(self.text(text.as_str())?)),
@@ -204,8 +202,9 @@ impl Redaction {
     /// The params of a `didSave`.
     pub(crate) fn saved(&mut self, uri: &str, text: Option<&String>) -> Result<Value>
         ensures { IfOk result (λ shown. Writes self.old self.new (uri_names uri.now)
-            (λ n. saved_data (shown_uri n uri.now) (option_map (shown_bytes self.old.apart)
-            (option_map (λ t. string_bytes t.now) text.entry))) (view shown)) }
+            (λ n. saved_data (written_uri (uri_of n uri.now)) (option_map written_text
+            (option_map (bytes_left self.old.apart)
+            (option_map (λ t. string_bytes t.now) text.entry)))) (view shown)) }
     {
         let name = self.names.uri(uri)?;
         let own = self.saved_text(text)?;

@@ -1,8 +1,9 @@
 //! What stays of the messages of a handshake, as JSON (LSP 3.17, "Server lifecycle").
 ghost use Rattle.std.specs.Prelude.{◌≡◌, ◌∷◌, [], IfOk, map, option_map, string_bytes};
-ghost use Rattle.lsp_redact.specs.Messages.{kind_number, list, offer_data, offer_of, offered_data};
-ghost use Rattle.lsp_redact.specs.Messages.{offered_of, picked_data, picked_of, registered_data};
-ghost use Rattle.lsp_redact.specs.Messages.{registered_of, registration_data, text_data};
+ghost use Rattle.lsp_redact.specs.Messages.{encoding_data, kind_number, list, offer_data, offer_of};
+ghost use Rattle.lsp_redact.specs.Messages.{offered_data, offered_of, picked_data, picked_of};
+ghost use Rattle.lsp_redact.specs.Messages.{registered_data, registered_of, registration_data};
+ghost use Rattle.lsp_redact.specs.Messages.{registration_of};
 ghost use Rattle.lsp_redact.specs.Names.{encoding_names, method_names, offer_names};
 ghost use Rattle.lsp_redact.specs.Names.{offered_names, shown_encoding, shown_method};
 ghost use Rattle.lsp_redact.specs.Naming.{Writes};
@@ -60,7 +61,7 @@ fn picked_value(alloc: Global, encoding: String, kind: u32) -> Result<Value>
 
 /// A registration of this method.
 fn registration_value(alloc: Global, method: String) -> Result<Value>
-    ensures { IfOk result (λ shown. view shown ≡ registration_data (string_bytes method)) }
+    ensures { IfOk result (λ shown. view shown ≡ registration_of (string_bytes method)) }
 {
     Ok(json!(in alloc; {"method": method})?)
 }
@@ -77,7 +78,7 @@ impl Redaction {
     fn encodings(&mut self, names: &[String]) -> Result<Value>
         ensures { IfOk result (λ shown. Writes self.old self.new
             (encoding_names (texts_view names.now))
-            (λ n. list (map text_data (map (shown_encoding n) (texts_view names.now))))
+            (λ n. list (map encoding_data (map (shown_encoding n) (texts_view names.now))))
             (view shown)) }
     {
         let mut shown = Vec::new(self.alloc);
@@ -92,7 +93,7 @@ impl Redaction {
     fn given_encodings(&mut self, encodings: Option<&Vec<String>>) -> Result<Option<Value>>
         ensures { IfOk result (λ shown. Writes self.old self.new
             (offered_names (option_map (λ v. texts_view v.now.items) encodings.entry))
-            (λ n. option_map (λ names. list (map text_data names))
+            (λ n. option_map (λ names. list (map encoding_data names))
             (option_map (map (shown_encoding n))
             (option_map (λ v. texts_view v.now.items) encodings.entry)))
             (option_map view shown)) }

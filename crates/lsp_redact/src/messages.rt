@@ -6,7 +6,7 @@ ghost use Rattle.lsp_redact.specs.Messages.{called_members, content_of, error_da
 ghost use Rattle.lsp_redact.specs.Messages.{members_of, params_of, reply_data};
 ghost use Rattle.lsp_redact.specs.Messages as spec;
 ghost use Rattle.lsp_redact.specs.Messages.{response_members};
-ghost use Rattle.lsp_redact.specs.Names.{act_names, call_names, given_names, joined};
+ghost use Rattle.lsp_redact.specs.Names.{Names, act_names, call_names, given_names, joined};
 ghost use Rattle.lsp_redact.specs.Names.{message_names, reply_names, shown_id, shown_method};
 ghost use Rattle.lsp_redact.specs.Naming.{Writes};
 ghost use Rattle.lsp_redact.specs.Shown.{shown_act, shown_head, shown_reply};
@@ -76,7 +76,8 @@ fn error_value(alloc: Global, code: i32) -> Result<Value>
 
 /// The name of the member that says what is answered.
 fn reply_name(reply: &Reply) -> &'static str
-    ensures { result.now ≡ spec.reply_name (reply_view reply.now) }
+    ensures { (names : Names) → result.now
+        ≡ spec.reply_name (shown_reply names (reply_view reply.now)) }
 {
     match reply {
         Reply::Picks(_) => "result",

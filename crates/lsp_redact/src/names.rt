@@ -6,8 +6,8 @@ ghost use Rattle.std.specs.Str.{bytes_eq};
 ghost use Rattle.lsp_redact.specs.Names as spec;
 ghost use Rattle.lsp_redact.specs.Names.{distinct, editor_methods, encoding_names, id_names};
 ghost use Rattle.lsp_redact.specs.Names.{method_names, no_names, number_of, server_methods};
-ghost use Rattle.lsp_redact.specs.Names.{shown_encoding, shown_id, shown_method, shown_uri};
-ghost use Rattle.lsp_redact.specs.Names.{uri_names};
+ghost use Rattle.lsp_redact.specs.Names.{shown_encoding, shown_id, shown_method, uri_names, uri_of};
+ghost use Rattle.lsp_redact.specs.Names.{written_encoding, written_method, written_uri};
 ghost use Rattle.lsp_redact.specs.Naming.{Shows, Stands};
 ghost use Rattle.lsp_redact.specs.Messages.{id_data};
 ghost use Rattle.lsp_rpc.specs.Act.{Text};
@@ -116,7 +116,7 @@ fn is_of_server(method: &str) -> bool
 }
 
 /// Whether the rules name this method.
-fn is_known(method: &str) -> bool
+pub(crate) fn is_known(method: &str) -> bool
     ensures { result ≡ spec.is_known method.now }
 {
     if is_of_editor(method) {
@@ -158,41 +158,48 @@ impl Names {
     /// What a URI is shown by.
     pub(crate) fn uri(&mut self, uri: &str) -> Result<String>
         ensures { IfOk result (λ shown. Shows self.old self.new (uri_names uri.now)
-            (λ names. shown_uri names uri.now) (string_bytes shown)) }
+            (λ names. written_uri (uri_of names uri.now)) (string_bytes shown)) }
     {
         let number = self.uris.of(uri)?;
         let shown = numbered(self.alloc, "file:///", number)?;
         Ok(shown)
     }
 
-    /// What the text of an id or a token is shown by.
-    fn id_text(&mut self, text: &str) -> Result<String>
+    /// What an id or a token is shown by that is a number: the number of the text that writes it.
+    fn id_number(&mut self, id: i32) -> Result<Value>
+        ensures { IfOk result (λ shown. Shows self.old self.new (id_names (ident.number id))
+            (λ names. id_data (shown_id names (ident.number id))) (view shown)) }
+    {
+        let text = format!(in self.alloc; "{id}")?;
+        let number = self.ids.of(text.as_str())?;
+        Ok(Value::from(number))
+    }
+
+    /// What an id or a token is shown by that is a text.
+    fn id_text(&mut self, text: &str) -> Result<Value>
         ensures { IfOk result (λ shown. Shows self.old self.new (id_names (ident.text text.now))
-            (λ names. decimal (number_of names.ids text.now)) (string_bytes shown)) }
+            (λ names. id_data (shown_id names (ident.text text.now))) (view shown)) }
     {
         let number = self.ids.of(text)?;
         let shown = numbered(self.alloc, "", number)?;
-        Ok(shown)
+        Ok(text_value(shown))
     }
 
-    /// What an id or a token is shown by: a number as it is.
+    /// What an id or a token is shown by: a number in the form that it has.
     pub(crate) fn id(&mut self, id: &Id) -> Result<Value>
         ensures { IfOk result (λ shown. Shows self.old self.new (id_names (id_view id.now))
             (λ names. id_data (shown_id names (id_view id.now))) (view shown)) }
     {
         match id {
-            Id::Number(number) => Ok(Value::from(*number)),
-            Id::Text(text) => {
-                let shown = self.id_text(text.as_str())?;
-                Ok(text_value(shown))
-            }
+            Id::Number(number) => self.id_number(*number),
+            Id::Text(text) => self.id_text(text.as_str()),
         }
     }
 
     /// What a method is shown by: one that the rules name as it is.
     pub(crate) fn method(&mut self, method: &str) -> Result<String>
         ensures { IfOk result (λ shown. Shows self.old self.new (method_names (method.now ∷ []))
-            (λ names. shown_method names method.now) (string_bytes shown)) }
+            (λ names. written_method (shown_method names method.now)) (string_bytes shown)) }
     {
         if is_known(method) {
             let same = String::from_str(self.alloc, method)?;
@@ -206,7 +213,7 @@ impl Names {
     /// What the name of an encoding is shown by: one that the rules name as it is.
     pub(crate) fn encoding(&mut self, name: &str) -> Result<String>
         ensures { IfOk result (λ shown. Shows self.old self.new (encoding_names (name.now ∷ []))
-            (λ names. shown_encoding names name.now) (string_bytes shown)) }
+            (λ names. written_encoding (shown_encoding names name.now)) (string_bytes shown)) }
     {
         if is_encoding(name) {
             let same = String::from_str(self.alloc, name)?;

@@ -1,9 +1,9 @@
 //! What is kept of a log on the way, and what is written of it once its verdict is known.
-ghost use Rattle.std.specs.Prelude.{◌≡◌, ◌++◌, ◌∷◌, ◌+◌, ◌<◌, ◌^◌, [], ℕ, List, None, OnOk, Some};
-ghost use Rattle.std.specs.Prelude.{false, length, map, max, option_map, option_to_list};
-ghost use Rattle.std.specs.Prelude.{string_bytes};
+ghost use Rattle.std.specs.Prelude.{◌≡◌, ◌++◌, ◌∷◌, [], ℕ, List, None, OnOk, Some, false, map};
+ghost use Rattle.std.specs.Prelude.{max, option_map, option_to_list, string_bytes};
 ghost use Rattle.std.specs.List.{flat_map};
 ghost use Rattle.lsp_docs.specs.Documents.{Terms};
+ghost use Rattle.lsp_frame.specs.Bounds.{Bounds};
 ghost use Rattle.lsp_log.specs.Log.{spelling};
 ghost use Rattle.lsp_redact.specs.Keeping.{Keeps};
 ghost use Rattle.lsp_redact.specs.Kept.{awaits};
@@ -11,33 +11,34 @@ ghost use Rattle.lsp_redact.specs.Kept as spec;
 ghost use Rattle.lsp_redact.specs.Names.{names_in, names_of};
 ghost use Rattle.lsp_redact.specs.Naming.{Writes};
 ghost use Rattle.lsp_redact.specs.Records.{records_of};
-ghost use Rattle.lsp_redact.specs.Redacting.{AddsLast, EndsAs, EndsBy, IsBroken, IsFaultOf};
-ghost use Rattle.lsp_redact.specs.Redacting.{fault_at, format_by, log_by, redact_run};
+ghost use Rattle.lsp_redact.specs.Records as records;
+ghost use Rattle.lsp_redact.specs.Redacting.{AddsLast, IsBroken, IsFaultOf, format_by, log_by};
+ghost use Rattle.lsp_redact.specs.Redacting.{redact_run};
 ghost use Rattle.lsp_redact.specs.Shown.{shown_kept};
 ghost use Rattle.lsp_redact.specs.View.{kept_view};
-ghost use Rattle.lsp_replay.specs.Run.{IsJudged, Tail};
-ghost use Rattle.lsp_replay.specs.Telling.{IsEnd, IsSeen, MaySpeak, Stood, no_of, rule_of};
+ghost use Rattle.lsp_replay.specs.Telling.{IsSeen, MaySpeak, rule_of};
 ghost use Rattle.lsp_verdict.specs.Event.{Event};
-ghost use Rattle.lsp_types.specs.declared.rules.TheConstants as rules;
-ghost use Rattle.lsp_verdict.specs.Given.{AreCounts, raw_view};
-ghost use Rattle.lsp_verdict.specs.Heard.{Heard, heard_events};
-ghost use Rattle.lsp_verdict.specs.Offences.{IsNoted};
+ghost use Rattle.lsp_verdict.specs.Given.{raw_view};
+ghost use Rattle.lsp_verdict.specs.Heard.{Heard};
 ghost use Rattle.lsp_verdict.specs.Placed.{Reads};
-ghost use Rattle.lsp_verdict.specs.Verdict.{first_no, no_next};
 
 use crate::apart::apart_of;
 use crate::broken::broken_text;
+use crate::check::put_checked;
 use crate::kept::{Kept, kept_of};
 use crate::records::{push_content, push_first_line, push_snapshot};
 use crate::redaction::Redaction;
 use lsp_docs::Docs;
-use lsp_frame::Format;
+use lsp_frame::{Format, Limits};
+use lsp_judge::verdict_at;
+use lsp_lined::Lined;
 use lsp_replay::{Account, End, Events, Fate, Flow, LogEvents, Seen, last_offence};
-use lsp_rpc::{Result, Side};
-use lsp_text::Lined;
-use lsp_types::rules;
-use lsp_verdict::{Counts, Outcome, Raw, Verdict, Who};
+use lsp_rpc::Result;
+use lsp_verdict::{Completeness, Outcome, Raw};
 use std::alloc::Global;
+
+/// The most bytes of UTF-8 that a character has.
+const MOST_BYTES: u64 = 4;
 
 /// Keeps what the rules read of each event, and says it at the first event that offends or at the
 /// end of the log.
@@ -46,27 +47,33 @@ pub(crate) struct Redacting {
     kept: Vec<Kept>,
     /// Whether an `initialize` is open.
     awaits: bool,
-    /// How many characters a record has at most, if it has more than one.
-    most: usize,
+    limits: Limits,
+}
+
+/// How many characters a record has at most, if it has more than one.
+fn most_of(limits: Limits) -> usize
+    ensures { max result 1 ≡ records.most_of limits }
+{
+    (limits.chunk() / MOST_BYTES) as usize
 }
 
 impl Redacting {
-    /// Nothing is kept yet; a record has at most this many characters, or one.
-    pub(crate) fn new(alloc: Global, most: usize) -> Self
+    /// Nothing is kept yet of a log that is read within these limits.
+    pub(crate) fn new(alloc: Global, limits: Limits) -> Self
         ensures kept { result.kept.items ≡ [] }
         ensures awaits { result.awaits ≡ false }
-        ensures most { result.most ≡ most }
+        ensures limits { result.limits ≡ limits }
     {
         Redacting {
             kept: Vec::new(alloc),
             awaits: false,
-            most,
+            limits,
         }
     }
 
     /// Keeps an event.
     fn keep(&mut self, alloc: Global, held: &Events<Lined>, seen: &Seen<'_>) -> Result<()>
-        ensures most { self.new.most ≡ self.old.most }
+        ensures limits { self.new.limits ≡ self.old.limits }
         ensures keeps { OnOk result ((terms : Terms) (before : List Heard) (h : Heard)
             → Keeps self.old terms before
             → IsSeen held.now.session held.now.docs held.now.counts seen.now terms before h
@@ -78,43 +85,50 @@ impl Redacting {
         Ok(())
     }
 
-    /// Adds the log of what is kept.
-    fn say(&self, text: &mut String, format: Format, redaction: &mut Redaction) -> Result<()>
+    /// Adds the log of what is kept, in records of so many characters.
+    fn say(
+        &self,
+        text: &mut String,
+        format: Format,
+        redaction: &mut Redaction,
+        most: usize,
+    ) -> Result<()>
         ensures { OnOk result (Writes redaction.old redaction.new
             (names_in (map kept_view self.now.kept.items))
-            (λ n. string_bytes text.old ++ log_by (max self.now.most 1) format n redaction.old.apart
+            (λ n. string_bytes text.old ++ log_by (max most 1) format n redaction.old.apart
             (map kept_view self.now.kept.items)) (string_bytes text.new)) }
     {
         push_first_line(text, format)?;
         for kept in &self.kept {
-            push_kept(text, redaction, kept, self.most)?;
+            push_kept(text, redaction, kept, most)?;
         }
         Ok(())
     }
 
-    /// Adds the event that offends.
+    /// Adds the event that offends, in records of so many characters.
     fn say_last(
         &self,
         text: &mut String,
         redaction: &mut Redaction,
         seen: &Seen<'_>,
         rule: u16,
+        most: usize,
     ) -> Result<()>
         ensures { OnOk result ((before : List Event) (event : Event)
             → self.now.awaits ≡ awaits before → Reads (raw_view seen.now.raw) event
             → MaySpeak before event (option_map (λ s. s.now) seen.now.spoken)
             → IsFaultOf rule event
-            → AddsLast (max self.now.most 1) redaction.old redaction.new (raw_view seen.now.raw) rule
+            → AddsLast (max most 1) redaction.old redaction.new (raw_view seen.now.raw) rule
             (spec.kept_of before event) (string_bytes text.old) (string_bytes text.new)) }
     {
         let kept = kept_of(redaction.alloc, seen, self.awaits)?;
         match kept {
             Some(kept) => {
-                push_kept(text, redaction, &kept, self.most)?;
+                push_kept(text, redaction, &kept, most)?;
                 Ok(())
             }
             None => {
-                push_broken(text, redaction.alloc, seen.raw, rule, self.most)?;
+                push_broken(text, redaction.alloc, seen.raw, rule, most)?;
                 Ok(())
             }
         }
@@ -184,59 +198,10 @@ fn format_of(docs: &Docs<Lined>) -> Format
     }
 }
 
-/// How the run ends at an event that offends: a fault of the frames is not written.
-fn outcome_of(held: &Events<Lined>, raw: Raw<'_>, rule: u16) -> Outcome
-    ensures { (terms : Terms) (before : List Heard) (h : Heard)
-        → Stood terms held.now.session held.now.docs held.now.counts (before ++ h ∷ [])
-        → length before + 1 < 2 ^ 64 → h.raw ≡ raw_view raw.entry → IsNoted h.raw h.note
-        → rule_of terms before h ≡ Some rule → EndsBy h.raw (no_of terms before h) result }
-{
-    match raw {
-        Raw::Broken { .. } => {
-            let offence = last_offence(&held.counts, raw, rule, false);
-            Outcome::Judged(offence.verdict())
-        }
-        _ => Outcome::Done,
-    }
-}
-
-/// No by 107 at the end of a log.
-fn inside_frame(counts: &Counts, who: Who) -> Outcome
-    ensures { (events : List Event) → AreCounts counts.now events → length events + 1 < 2 ^ 64
-        → IsJudged (no_next rules.STREAM_ENDS_INSIDE_FRAME who events) result }
-{
-    let (number, event) = counts.next(who);
-    Outcome::Judged(Verdict::No {
-        rule: rules::STREAM_ENDS_INSIDE_FRAME,
-        who,
-        number,
-        event,
-    })
-}
-
-/// How the run ends where the log ends so, none of whose events offends.
-fn outcome_at(held: &Events<Lined>, log: &LogEvents, end: End) -> Outcome
-    ensures { (terms : Terms) (heard : List Heard) (tail : Tail)
-        → Stood terms held.now.session held.now.docs held.now.counts heard
-        → length heard < 2 ^ 63 → first_no terms (heard_events heard) ≡ None
-        → IsEnd log.now end heard tail → EndsAs (fault_at (heard_events heard) tail) result }
-{
-    if let End::Bad { number, fault } = end {
-        return Outcome::Judged(Verdict::BadLog { number, fault });
-    }
-    if log.ends_inside(Side::Editor) {
-        return inside_frame(&held.counts, Who::Editor);
-    }
-    if log.ends_inside(Side::Server) {
-        return inside_frame(&held.counts, Who::Server);
-    }
-    Outcome::Done
-}
-
 impl Account for Redacting {
-    ghost Asked = { ℕ };
+    ghost Asked = { Bounds };
 
-    ghost asked = { λ account. max account.most 1 };
+    ghost asked = { λ account. account.limits };
 
     ghost run = { redact_run };
 
@@ -248,11 +213,14 @@ impl Account for Redacting {
             self.keep(alloc, held, seen)?;
             return Ok(Flow::GoOn);
         };
+        let most = most_of(self.limits);
         let apart = apart_of(alloc, held, seen.call, rule, tried)?;
         let mut redaction = Redaction::new(alloc, apart);
-        self.say(text, format_of(&held.docs), &mut redaction)?;
-        self.say_last(text, &mut redaction, seen, rule)?;
-        let outcome = outcome_of(held, seen.raw, rule);
+        let mut left = String::new(alloc);
+        self.say(&mut left, format_of(&held.docs), &mut redaction, most)?;
+        self.say_last(&mut left, &mut redaction, seen, rule, most)?;
+        let verdict = last_offence(&held.counts, seen.raw, rule, false).verdict();
+        let outcome = put_checked(text, left.as_str(), verdict, self.limits)?;
         let boxed = Box::new(alloc, outcome)?;
         Ok(Flow::Stop(boxed))
     }
@@ -264,8 +232,13 @@ impl Account for Redacting {
         end: End,
         text: &mut String,
     ) -> Result<Outcome> {
-        let mut redaction = Redaction::new(*text.allocator(), None);
-        self.say(text, format_of(&held.docs), &mut redaction)?;
-        Ok(outcome_at(held, log, end))
+        let alloc = *text.allocator();
+        let mut redaction = Redaction::new(alloc, None);
+        let mut left = String::new(alloc);
+        let most = most_of(self.limits);
+        self.say(&mut left, format_of(&held.docs), &mut redaction, most)?;
+        let verdict = verdict_at(held, log, end, Completeness::Ignored)?;
+        let outcome = put_checked(text, left.as_str(), verdict, self.limits)?;
+        Ok(outcome)
     }
 }

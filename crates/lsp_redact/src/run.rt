@@ -1,5 +1,4 @@
 //! Writes a log with its words replaced.
-ghost use Rattle.lsp_redact.specs.Records.{most_of};
 ghost use Rattle.lsp_redact.specs.Redacting.{redact_run};
 ghost use Rattle.lsp_replay.specs.Run.{PassesOn};
 ghost use Rattle.lsp_verdict.specs.Runs.{ports};
@@ -10,16 +9,15 @@ use lsp_replay::pass;
 use lsp_verdict::{Outcome, RunFault};
 use std::alloc::Global;
 
-/// The most bytes of UTF-8 that a character has.
-const MOST_BYTES: u64 = 4;
-
 /// Reads a log up to the first event that offends, or to its end, and writes one that has the same
 /// verdict: of each message what the rules read, names as numbers, and characters as others of
 /// their kind, with as many units in each encoding.
 ///
 /// A fault of a side's frames or of the log ends it after the events before that, and so do bytes
 /// at the end that are not a whole frame; the outcome is then the verdict at that fault, and else
-/// `Done`. Nothing is written before the verdict is known.
+/// `Done`. Nothing is written before the verdict is known, and before what is to be written was
+/// judged too: where that does not show the verdict, the outcome is `Unlike`, and nothing is
+/// written.
 ///
 /// # Errors
 /// `Read` where the source failed, `Write` where the sink did, and `Memory` where memory was
@@ -30,11 +28,10 @@ pub fn run_redact<R: Source, W: Sink>(
     writer: &mut W,
     limits: Limits,
 ) -> Result<Outcome, RunFault>
-    ensures passes { PassesOn (redact_run (most_of limits)) limits
+    ensures passes { PassesOn (redact_run limits) limits
         (ports (R.told reader.old) (R.told reader.new) (W.told writer.old) (W.told writer.new))
         result }
 {
-    let most = (limits.chunk() / MOST_BYTES) as usize;
-    let mut account = Redacting::new(alloc, most);
+    let mut account = Redacting::new(alloc, limits);
     pass(alloc, reader, writer, limits, &mut account)
 }

@@ -10,7 +10,7 @@ use Rattle.lsp_docs.specs.State as docs
 use Rattle.lsp_docs.specs.Documents.{Terms}
 use Rattle.lsp_docs.specs.declared.tried.Tried.{Tried}
 use Rattle.lsp_session.specs.State as session
-use Rattle.lsp_text.specs.Counted.{Counted}
+use Rattle.lsp_lined.specs.Counted.{Counted}
 use Rattle.lsp_replay.specs.Standing.{Follows, Holds}
 use Rattle.lsp_replay.specs.Telling.{HasFate, Stood, no_of, rule_of}
 use Rattle.lsp_replay.specs.declared.seen.Fate.{Fate}

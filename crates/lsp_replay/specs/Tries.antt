@@ -4,7 +4,7 @@ use Rattle.lsp_docs.specs.Documents.{Terms}
 use Rattle.lsp_docs.specs.Calls.{Call}
 use Rattle.lsp_docs.specs.Tried.{IsTried, Made, tried_in}
 use Rattle.lsp_docs.specs.declared.tried.Tried.{Tried}
-use Rattle.lsp_text.specs.Counted.{Counted}
+use Rattle.lsp_lined.specs.Counted.{Counted}
 use Rattle.lsp_types.specs.declared.rules.TheConstants as rules
 use Rattle.lsp_verdict.specs.Event.{calls, Event}
 

@@ -9,8 +9,8 @@ ghost use Rattle.lsp_verdict.specs.Heard.{Heard, heard_events};
 use crate::events::Events;
 use crate::log_events::{End, LogEvents};
 use crate::seen::{Flow, Seen};
+use lsp_lined::Lined;
 use lsp_rpc::Result;
-use lsp_text::Lined;
 use lsp_verdict::Outcome;
 
 /// What a run says of a log, event by event, and at its end. It adds to a text, and writes nothing.

@@ -8,8 +8,8 @@ use crate::events::Events;
 use crate::log_events::{End, LogEvents};
 use crate::seen::{Flow, Seen};
 use lsp_json::push_json;
+use lsp_lined::Lined;
 use lsp_rpc::Result;
-use lsp_text::Lined;
 use lsp_verdict::Outcome;
 use std::alloc::Global;
 

@@ -13,8 +13,8 @@ use crate::events::Events;
 use crate::log_events::{End, LogEvents};
 use crate::seen::{Fate, Flow, Seen, last_offence};
 use crate::text_answer::TextAnswer;
+use lsp_lined::Lined;
 use lsp_rpc::Result;
-use lsp_text::Lined;
 use lsp_verdict::{Outcome, Verdict};
 
 /// Says the text that is held of a URI just after the editor's message of this number, from 1.

@@ -24,8 +24,8 @@ use crate::events::{Events, ReadEvent, read_into};
 use crate::log_events::{End, LogEvents, Next};
 use crate::seen::{Fate, Flow, Seen};
 use lsp_frame::{Format, Limits, Sink, Source, WriteFault, put_all};
+use lsp_lined::Lined;
 use lsp_rpc::{Result, Side, Spoken};
-use lsp_text::Lined;
 use lsp_verdict::{Outcome, Raw, RunFault};
 use std::alloc::Global;
 

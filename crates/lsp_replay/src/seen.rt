@@ -13,8 +13,8 @@ use crate::events::Events;
 use crate::heard::EventPlace;
 use crate::lines::{push_message_line, push_snapshot_line};
 use lsp_docs::{Call, Took, Tried};
+use lsp_lined::Lined;
 use lsp_rpc::{Result, Spoken};
-use lsp_text::Lined;
 use lsp_verdict::{Counts, Lines, Offence, Outcome, Raw};
 
 /// What happened at an event, which is counted. All of it is lent.

@@ -11,9 +11,9 @@ ghost use Rattle.lsp_verdict.specs.Heard.{Heard};
 ghost use Rattle.lsp_verdict.specs.Survey.{by_itself};
 ghost use Rattle.lsp_verdict.specs.Verdict.{bad_log_of};
 
+use lsp_lined::Lined;
 use lsp_replay::{End, Events, LogEvents, first_end};
 use lsp_rpc::{Result, Side};
-use lsp_text::Lined;
 use lsp_types::rules;
 use lsp_verdict::{Completeness, Counts, Offence, Verdict, Who};
 

@@ -28,10 +28,10 @@ use crate::notes::{
     note_refused, wants_handshake, wants_text,
 };
 use lsp_docs::Call;
+use lsp_lined::Lined;
 use lsp_replay::{Events, Fate, Seen};
 use lsp_rpc::{Message, Result, Side};
 use lsp_session::Session;
-use lsp_text::Lined;
 use lsp_types::rules;
 use lsp_verdict::Raw;
 use std::alloc::Global;

@@ -13,9 +13,9 @@ ghost use Rattle.lsp_verdict.specs.Report.{report};
 ghost use Rattle.lsp_verdict.specs.Survey.{bad_lines, first_verdict};
 ghost use Rattle.lsp_verdict.specs.Verdict.{first_no, summary, yes};
 
+use lsp_lined::Lined;
 use lsp_replay::{Events, summary_of};
 use lsp_rpc::Result;
-use lsp_text::Lined;
 use lsp_verdict::{Listing, Offence, Verdict, found_report, offence_report, verdict_report};
 
 /// The first offence, how many there were, and how many of them follow from earlier ones.

@@ -7,9 +7,9 @@ ghost use Rattle.lsp_survey.specs.SurveyRun.{SurveyAsked, SurveyStands, survey_r
 use crate::end_of_session::{SessionEnd, session_end};
 use crate::losses::Losses;
 use crate::offence_count::OffenceCount;
+use lsp_lined::Lined;
 use lsp_replay::{Account, End, Events, Fate, Flow, LogEvents, Seen, last_offence, push_kept_line};
 use lsp_rpc::Result;
-use lsp_text::Lined;
 use lsp_verdict::{Completeness, Lines, Listing, Outcome};
 use std::alloc::Global;
 

@@ -1,8 +1,12 @@
--- Bytes that are the same at the ends of two slices.
+-- Bytes that are the same at the ends of two slices, and what comes after a text in a text.
 use Rattle.std.proofs.Common.{◌≡◌, ◌≤◌, ◌+◌, ◌-◌, ℕ, List, ◌++◌, length, take, drop}
 use Rattle.std.proofs.Common.{sym, ap, ap₂, ◌∙◌, arith}
 use Rattle.std.proofs.lemmas.List.{drop-drop, take-append-drop}
 use Rattle.lsp_text.specs.Parting.{AreSameEnds}
+use Rattle.std.proofs.Common.{[], ◌∷◌, refl, subst, append_assoc}
+use Rattle.std.specs.Str.{chars, IsUtf8}
+use Rattle.std.proofs.lemmas.Str.{encodes-chars, IsUtf8-past_char}
+use lib.Utf8.{encodes, encode}
 
 -- the ends, by what comes before each of them
 ends_from : (a b : List ℕ) (n i j : ℕ) → i + n ≡ length a → j + n ≡ length b
@@ -41,3 +45,12 @@ fewer_ends a b n m h le =
     let j = length b - n in
     ends_from a b m (i + (n - m)) (j + (n - m)) (omega arith) (omega arith)
     (sym (drop-drop (n - m) i a) ∙ ap (drop (n - m)) h.same ∙ drop-drop (n - m) j b)
+
+utf8_past : (cs bs rest : List ℕ) → IsUtf8 bs → bs ≡ encodes cs ++ rest → IsUtf8 rest
+utf8_past [] bs rest u is = subst IsUtf8 is u
+utf8_past (c ∷ cs) bs rest u is =
+    utf8_past cs (encodes cs ++ rest) rest (IsUtf8-past_char bs (encodes cs ++ rest) c u (is ∙ append_assoc (encode c) (encodes cs) rest)) refl
+
+-- what comes after a text in a text
+pub IsUtf8-rest : (a bs rest : List ℕ) → IsUtf8 a → IsUtf8 bs → bs ≡ a ++ rest → IsUtf8 rest
+IsUtf8-rest a bs rest ua u is = utf8_past (chars a) bs rest u (is ∙ ap (λ (x : List ℕ). x ++ rest) (sym (encodes-chars a ua)))

@@ -11,15 +11,4 @@ pub mod Difference
 pub mod Parting
 pub mod InsideCharacter
 pub mod Sizes
-pub mod Counted
-pub mod Steps
-pub mod Ends
-pub mod Sums
-pub mod Parts
-pub mod Blocks
-pub mod Chunks
-pub mod Trees
-pub mod Patches
-pub mod Windows
-pub mod LentLines
-pub mod Walks
+pub mod Spans

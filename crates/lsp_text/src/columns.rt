@@ -43,12 +43,7 @@ fn offset_of_byte(line: &str, column: u32) -> Option<usize>
 }
 
 /// The same in a line of this many units, counted from its end where the column is nearer to that.
-pub(crate) fn offset_in_counted(
-    line: &str,
-    encoding: Encoding,
-    column: u32,
-    width: u32,
-) -> Option<usize>
+pub fn offset_in_counted(line: &str, encoding: Encoding, column: u32, width: u32) -> Option<usize>
     requires width { width ≡ units encoding (chars line.now) }
     requires within { column ≤ width }
     ensures { MatchOption result (place_in_line encoding (chars line.now) column ≡ None)

@@ -74,7 +74,7 @@ pub fn first_difference<'a, 'b>(
 }
 
 /// The bytes before the first character at which two texts differ.
-pub(crate) fn parting(held: &str, other: &str) -> Option<usize>
+pub fn parting(held: &str, other: &str) -> Option<usize>
     ensures { MatchOption result (chars held.now ≡ chars other.now) (IsParting held.now other.now) }
 {
     let at = differing_byte(held.as_bytes(), other.as_bytes())?;

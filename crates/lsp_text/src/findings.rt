@@ -1,18 +1,14 @@
 //! What of a change does not fit the text that it is made in: no rule refuses it.
 
-ghost use Rattle.std.specs.Prelude.{◌≡◌, ℕ, List};
+ghost use Rattle.std.specs.Prelude.{◌≡◌};
 ghost use Rattle.std.specs.Option.{option_or};
 ghost use Rattle.std.specs.Str.{chars};
 ghost use Rattle.lsp_text.specs.Findings as spec;
 ghost use Rattle.lsp_text.specs.Findings.{extent_of, text_extent, past_by, past_of, length_of};
-ghost use Rattle.lsp_text.specs.Findings.{lengths_of};
 ghost use Rattle.lsp_text.specs.Findings.{nothing, noted};
-ghost use Rattle.lsp_text.specs.Places.{units};
-ghost use Rattle.lsp_text.specs.Sums.{IsExchange};
 
 use crate::plain::count_lines;
 use crate::reading::{line_at, width_of};
-use crate::sums::{Measure, Sums};
 use lsp_types::{Encoding, Position, Span};
 
 /// How far a text goes, where a position lies past its end.
@@ -73,7 +69,7 @@ impl Findings {
 
     /// Takes what a later change found where nothing was found before.
     #[inline(always)]
-    pub(crate) fn note(&mut self, more: Findings)
+    pub fn note(&mut self, more: Findings)
         ensures { self.new ≡ noted self.old more }
     {
         if more.past_end.is_some() || more.range_length.is_some() {
@@ -93,7 +89,7 @@ impl Findings {
 
 /// How a position fits that denotes a place of a text, which goes so far where it lies past the
 /// end.
-pub(crate) fn fit_by(extent: Option<Extent>) -> Fit
+pub fn fit_by(extent: Option<Extent>) -> Fit
     ensures { result ≡ spec.fit_by extent }
 {
     match extent {
@@ -104,7 +100,7 @@ pub(crate) fn fit_by(extent: Option<Extent>) -> Fit
 
 /// How far a line of this many units goes, where a column is greater.
 #[inline(always)]
-pub(crate) fn extent_past(width: u64, column: u32) -> Option<Extent>
+pub fn extent_past(width: u64, column: u32) -> Option<Extent>
     ensures { result ≡ extent_of width column }
 {
     if width < column as u64 {
@@ -116,11 +112,7 @@ pub(crate) fn extent_past(width: u64, column: u32) -> Option<Extent>
 
 /// The first position of a span that lies past the end, where these are how far the text goes.
 #[inline(always)]
-pub(crate) fn past_end_of(
-    span: Span,
-    first: Option<Extent>,
-    second: Option<Extent>,
-) -> Option<PastEnd>
+pub fn past_end_of(span: Span, first: Option<Extent>, second: Option<Extent>) -> Option<PastEnd>
     ensures { result ≡ option_or (past_by span.first first) (past_by span.second second) }
 {
     if let Some(extent) = first {
@@ -137,7 +129,7 @@ pub(crate) fn past_end_of(
 /// Whether this is the number of a text's units, or no length at all: a negative one is no
 /// `uinteger`.
 #[inline(always)]
-fn is_no_other(sent: i32, width: u64) -> bool
+pub fn is_no_other(sent: i32, width: u64) -> bool
     ensures { result ≡ spec.is_no_other sent width }
 {
     sent < 0 || u64::from(sent.cast_unsigned()) == width
@@ -186,56 +178,4 @@ fn length_other_than(text: &str, encoding: Encoding, sent: Option<i32>) -> Optio
         utf16: width_of(text, Encoding::Utf16),
         utf32: width_of(text, Encoding::Utf32),
     })
-}
-
-/// The length that is sent, where it is not that of the text that an insertion replaced. The text
-/// had the first sums before, and has the others since.
-#[inline(always)]
-pub(crate) fn length_other_than_removed(
-    old: Sums,
-    new: Sums,
-    inserted: &str,
-    encoding: Encoding,
-    sent: Option<i32>,
-) -> Option<OtherLength>
-    requires { (removed : List ℕ) × IsExchange old new removed (chars inserted.now) }
-    ensures { (removed : List ℕ) → IsExchange old new removed (chars inserted.now)
-        → result ≡ length_of encoding removed sent }
-{
-    let sent = sent?;
-    if is_no_other(sent, removed_units(old, new, inserted, encoding)) {
-        return None;
-    }
-    Some(lengths_removed(old, new, inserted, sent))
-}
-
-/// The same length, with how long the text is that was replaced.
-#[cold]
-#[inline(never)]
-fn lengths_removed(old: Sums, new: Sums, inserted: &str, sent: i32) -> OtherLength
-    requires { (removed : List ℕ) × IsExchange old new removed (chars inserted.now) }
-    ensures { (removed : List ℕ) → IsExchange old new removed (chars inserted.now)
-        → result ≡ lengths_of removed sent }
-{
-    OtherLength {
-        sent,
-        utf8: removed_units(old, new, inserted, Encoding::Utf8),
-        utf16: removed_units(old, new, inserted, Encoding::Utf16),
-        utf32: removed_units(old, new, inserted, Encoding::Utf32),
-    }
-}
-
-/// The units of the text that an insertion replaced: all that are not there any more.
-#[inline(always)]
-fn removed_units(old: Sums, new: Sums, inserted: &str, encoding: Encoding) -> u64
-    requires { (removed : List ℕ) × IsExchange old new removed (chars inserted.now) }
-    ensures { (removed : List ℕ) → IsExchange old new removed (chars inserted.now)
-        → result ≡ units encoding removed }
-{
-    // An insertion alone, which is what most edits are, need not be counted.
-    if new.bytes - inserted.len() as u64 == old.bytes {
-        return 0;
-    }
-    let units = Measure::Units(encoding);
-    old.by(units) - (new.by(units) - width_of(inserted, encoding))
 }

@@ -15,7 +15,7 @@ use std::alloc::Global;
 
 /// What is left of a text while lines are taken off its front, whatever ends they have there.
 #[derive(Clone, Copy)]
-pub(crate) enum LinesLeft<'a> {
+pub enum LinesLeft<'a> {
     /// This text, and the end of its last line.
     Rest(&'a str),
     /// Nothing: the end of the last line was taken too.
@@ -58,7 +58,7 @@ fn with_feeds(alloc: Global, text: &str) -> Result<String, Memory>
 }
 
 /// A text without the line end at its end, if it has one there.
-pub(crate) fn without_last_end(text: &str) -> &str
+pub fn without_last_end(text: &str) -> &str
     ensures { compared Ignored text.now ≡ with_feeds result.now }
 {
     before_last_end(text).unwrap_or(text)
@@ -66,7 +66,7 @@ pub(crate) fn without_last_end(text: &str) -> &str
 
 /// What is left after these lines, or `None` where something else comes first. They do not end
 /// inside a CR LF.
-pub(crate) fn take_lines<'a>(left: LinesLeft<'a>, lines: &str) -> Option<LinesLeft<'a>>
+pub fn take_lines<'a>(left: LinesLeft<'a>, lines: &str) -> Option<LinesLeft<'a>>
     ensures { MatchOption result (BeginsOtherwise (with_feeds lines.now) (due left.entry))
         (λ next. due left.entry ≡ with_feeds lines.now ++ due next) }
 {
@@ -81,7 +81,7 @@ pub(crate) fn take_lines<'a>(left: LinesLeft<'a>, lines: &str) -> Option<LinesLe
 
 /// Whether all of a text was taken, where this is left of it. Its last line end was cut off
 /// ([`without_last_end`]), and what was taken may have that end or not.
-pub(crate) fn is_taken(left: Option<LinesLeft<'_>>, whole: &str) -> bool
+pub fn is_taken(left: Option<LinesLeft<'_>>, whole: &str) -> bool
     ensures { (taken : List ℕ) → IsTaken taken whole.now left.entry
         → (IsTrue result ↔ (compared Ignored taken ≡ with_feeds whole.now)) }
 {
@@ -145,7 +145,7 @@ fn after_end(text: &str) -> Option<&str>
 }
 
 /// What comes before the line end that a text ends with.
-pub(crate) fn before_last_end(text: &str) -> Option<&str>
+pub fn before_last_end(text: &str) -> Option<&str>
     ensures { MatchOption result (EndsOtherwise (with_feeds text.now))
         (λ front. with_feeds text.now ≡ with_feeds front.now ++ 10 ∷ []) }
 {

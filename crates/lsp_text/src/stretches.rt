@@ -11,7 +11,7 @@ use std::simd::u8x64;
 const STRETCH: usize = 256;
 
 /// What comes after the front of a text, if it begins with that. Quick where the front is long.
-pub(crate) fn after_front<'a>(text: &'a str, front: &str) -> Option<&'a str>
+pub fn after_front<'a>(text: &'a str, front: &str) -> Option<&'a str>
     ensures { MatchOption result (BeginsOtherwise front.now text.now)
         (λ rest. text.now ≡ front.now ++ rest.now) }
 {
@@ -61,7 +61,7 @@ fn is_same_stretch(a: &[u8], b: &[u8], at: usize) -> bool
 const BLOCK: usize = 64;
 
 /// How many bytes at the ends of two texts are the same. They begin with a whole character.
-pub(crate) fn same_back(a: &str, b: &str) -> usize
+pub fn same_back(a: &str, b: &str) -> usize
     ensures { AreSameFrom a.now b.now result }
 {
     let mut same = same_end(a.as_bytes(), b.as_bytes());

@@ -42,6 +42,8 @@ pub enum Outcome {
     TooFew,
     /// The verdict is not that two texts differ.
     NoDifference,
+    /// What was to be written does not show the verdict on the log, so nothing is written.
+    Unlike,
 }
 
 /// Why a run stopped before its end.

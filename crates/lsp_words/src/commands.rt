@@ -37,7 +37,7 @@ Exit status:
   0 yes or done        3 read or write fault
   1 no                 4 out of memory
   2 bad log or stream  5 nothing to write (text, event, explain --by-messages, --in-editor)
-                       64 bad arguments
+  6 can't be redacted  64 bad arguments
 
 The repository describes the rules in docs/RULES.md, the lines of a report in docs/REPORT.md, how to
 record a session in docs/RECORDERS.md, and the format of a log in docs/LOG_FORMAT.md.";

@@ -217,18 +217,29 @@ fn answer<R: Clock + Env + Files + io::Input + Print + Eprint + AllocGlobal>(
     rt: &R,
     terminals: Terminals,
 ) -> u8 {
-    let words = match words_of(rt) {
-        Ok(words) => words,
-        Err(error) if error.kind() == io::ErrorKind::OutOfMemory => {
-            return status_shown(rt, RunFault::Memory);
-        }
-        Err(_) => {
-            let _ = eprintln!(rt; "lspcheck: error: a word of the command line is not UTF-8");
-            return status_of_words(ErrorKind::InvalidValue);
-        }
-    };
-    match request_of(rt.alloc(), words.as_slice()) {
-        Err(error) => status_of_wrong_words(rt, words.as_slice(), &error),
+    match words_of(rt) {
+        Ok(words) => answer_to(rt, words.as_slice(), terminals),
+        Err(error) => status_without_words(rt, error.kind()),
+    }
+}
+
+/// Tells why the words of the command line cannot be read.
+fn status_without_words<R: Eprint>(rt: &R, kind: io::ErrorKind) -> u8 {
+    if kind == io::ErrorKind::OutOfMemory {
+        return status_shown(rt, RunFault::Memory);
+    }
+    let _ = eprintln!(rt; "lspcheck: error: a word of the command line is not UTF-8");
+    status_of_words(ErrorKind::InvalidValue)
+}
+
+/// Does what these words ask for, or tells why it cannot be done.
+fn answer_to<R: Clock + Files + io::Input + Print + Eprint + AllocGlobal>(
+    rt: &R,
+    words: &[String],
+    terminals: Terminals,
+) -> u8 {
+    match request_of(rt.alloc(), words) {
+        Err(error) => status_of_wrong_words(rt, words, &error),
         Ok(request) => status_of_what_is_asked(rt, &request, terminals),
     }
 }

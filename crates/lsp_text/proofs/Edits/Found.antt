@@ -2,13 +2,11 @@
 use Rattle.std.proofs.Common.{◌≡◌, ℕ, ℤ, pos, negsuc, List, [], ◌∷◌, Option, Some, None, map, refl}
 use Rattle.lsp_types.specs.declared.position.Encoding.{Encoding}
 use Rattle.lsp_types.specs.declared.position.Encoding.TheVariants.{Utf8, Utf16, Utf32}
-use Rattle.lsp_types.specs.declared.position.Position.{Position}
 use Rattle.lsp_types.specs.declared.position.Span.{Span}
 use Rattle.lsp_text.specs.Edits.{Edit}
-use Rattle.lsp_text.specs.Findings.{findings, nothing, found_in, text_extent}
+use Rattle.lsp_text.specs.Findings.{findings, nothing, text_extent}
 use Rattle.lsp_text.specs.declared.findings.Extent.{Extent}
 use Rattle.lsp_text.specs.declared.findings.Extent.TheVariants.{Lines, Units}
-use Rattle.lsp_text.specs.declared.findings.OtherLength.{OtherLength}
 use Rattle.lsp_text.specs.declared.findings.Findings.{Findings}
 use Rattle.lsp_text.proofs.Edits.Vectors.{at, between, sample}
 

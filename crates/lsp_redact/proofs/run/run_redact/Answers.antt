@@ -1,7 +1,6 @@
-use Rattle.std.proofs.Common.{◌≡◌, ℕ, ap, map, max, refl, subst, ◌∙◌}
-use Rattle.std.specs.Prelude.{◌/◌}
+use Rattle.std.proofs.Common.{ap, map, refl, subst, ◌∙◌}
+use Rattle.lsp_frame.specs.Bounds.{Bounds}
 use Rattle.lsp_replay.specs.Run.{Passes}
-use Rattle.lsp_redact.specs.Records.{most_of}
 use Rattle.lsp_redact.specs.Redacting.{redact_run}
 use Rattle.lsp_redact.specs.View.{kept_view}
 use Rattle.lsp_redact.proofs.run.run_redact.Goals as goal
@@ -16,12 +15,9 @@ pass-requires g c = record {
 }
 
 pub returns : goal.returns
-returns g c =
-    let most : max c.new-account.result.most 1 ≡ most_of c.args.limits =
-    ap (λ (n : ℕ). max n 1) (c.new-account.ensures.most ∙ ap (λ (n : ℕ). n / 4) c.chunk.ensures.value) in
-    record {
-      passes = subst (λ (n : ℕ). Passes (redact_run n) c.args.limits
-          (g.R.Source.told c.args.reader.now) (g.R.Source.told c.pass.new.reader)
-          (g.W.Sink.told c.args.writer.now) (g.W.Sink.told c.pass.new.writer) c.pass.result) most
-          c.pass.ensures.passes;
-    }
+returns g c = record {
+  passes = subst (λ (b : Bounds). Passes (redact_run b) c.args.limits
+      (g.R.Source.told c.args.reader.now) (g.R.Source.told c.pass.new.reader)
+      (g.W.Sink.told c.args.writer.now) (g.W.Sink.told c.pass.new.writer) c.pass.result)
+      c.new-account.ensures.limits c.pass.ensures.passes;
+}

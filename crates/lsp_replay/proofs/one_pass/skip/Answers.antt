@@ -1,6 +1,6 @@
 use Rattle.std.proofs.Common.{◌∙◌, Option, subst, sym}
 use Rattle.lsp_docs.specs.declared.tried.Tried.{Tried}
-use Rattle.lsp_text.specs.Counted.{Counted}
+use Rattle.lsp_lined.specs.Counted.{Counted}
 use Rattle.lsp_replay.specs.Telling.{kept_before}
 use Rattle.lsp_replay.specs.Tries.{TriesCall, made_in}
 use Rattle.lsp_verdict.specs.Event.{call_at}

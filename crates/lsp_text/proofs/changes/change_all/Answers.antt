@@ -3,7 +3,6 @@ use Rattle.std.specs.Str.{chars}
 use Rattle.lsp_text.specs.Edits.{changed, IsFaultOf}
 use Rattle.lsp_text.proofs.Edits.Applied.{fails_after, fails_all, none_made, on_success}
 use Rattle.lsp_text.proofs.Edits.Applied.{one_more_made}
-use Rattle.lsp_text.proofs.Edits.Found.{a_column}
 use Rattle.lsp_text.proofs.FoundChanges.{found_next, found_all}
 use Rattle.lsp_text.proofs.changes.change_all.Goals as goal
 

@@ -1,7 +1,7 @@
 use Rattle.std.proofs.Common.{◌≡◌, ◌++◌, ℕ, List, length, drop, ap, ap₂, sym, ◌∙◌}
 use Rattle.std.proofs.lemmas.Bool.{true≢false}
 use Rattle.std.proofs.lemmas.Str.{IsCharBoundary-at_seam}
-use Rattle.lsp_text.proofs.PartSteps.{IsUtf8-rest}
+use Rattle.lsp_text.proofs.CommonEnds.{IsUtf8-rest}
 use Rattle.lsp_text.proofs.stretches.after_front.Goals as goal
 
 -- what the bytes of two texts are to each other, the texts are

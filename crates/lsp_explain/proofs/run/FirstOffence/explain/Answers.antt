@@ -5,11 +5,11 @@ use Rattle.lsp_replay.specs.declared.seen.Fate.{Fate}
 use Rattle.lsp_verdict.specs.Given.{verdict_view}
 use Rattle.lsp_verdict.specs.Heard.{heard_events}
 use Rattle.lsp_verdict.specs.Offences.{Offence}
-use Rattle.lsp_explain.specs.MessageNotes.{AreNoted}
-use Rattle.lsp_explain.specs.Misfits.{found_kept, found_refuted}
-use Rattle.lsp_explain.specs.Notes.{noticed, note_lines, notes_by}
+use Rattle.lsp_notes.specs.MessageNotes.{AreNoted}
+use Rattle.lsp_notes.specs.Misfits.{found_kept, found_refuted}
+use Rattle.lsp_notes.specs.Notes.{noticed, note_lines, notes_by}
 use Rattle.lsp_explain.proofs.AccountSteps.{first_told}
-use Rattle.lsp_explain.proofs.Telling.{stands_before, told_of}
+use Rattle.lsp_origins.proofs.Telling.{stands_before, told_of}
 use Rattle.lsp_explain.proofs.run.FirstOffence.explain.Goals as goal
 
 pub returns : goal.returns

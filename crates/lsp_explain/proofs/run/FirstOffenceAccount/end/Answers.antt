@@ -2,11 +2,11 @@ use Rattle.std.proofs.Common.{◌≡◌, ◌++◌, [], append-nil, string_bytes,
 use Rattle.lsp_docs.specs.Documents.{Terms}
 use Rattle.lsp_verdict.specs.Given.{verdict_view}
 use Rattle.lsp_verdict.specs.Heard.{heard_events}
-use Rattle.lsp_explain.specs.MessageNotes.{AreNoted}
-use Rattle.lsp_explain.specs.Misfits.{AreMisfits, found_kept}
-use Rattle.lsp_explain.specs.Notes.{noticed, note_lines, notes_by}
+use Rattle.lsp_notes.specs.MessageNotes.{AreNoted}
+use Rattle.lsp_notes.specs.Misfits.{AreMisfits, found_kept}
+use Rattle.lsp_notes.specs.Notes.{noticed, note_lines, notes_by}
 use Rattle.lsp_explain.proofs.Ending.{first_closes}
-use Rattle.lsp_explain.proofs.Telling.{stands_at}
+use Rattle.lsp_origins.proofs.Telling.{stands_at}
 use Rattle.lsp_explain.proofs.run.FirstOffenceAccount.end.Goals as goal
 
 pub returns : goal.returns

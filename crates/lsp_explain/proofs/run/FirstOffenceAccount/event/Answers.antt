@@ -4,9 +4,9 @@ use Rattle.lsp_replay.proofs.AllHeard.{kept_seen}
 use Rattle.lsp_replay.proofs.Wanting.{on_err}
 use Rattle.lsp_replay.specs.Telling.{ShowsFault}
 use Rattle.lsp_verdict.specs.Heard.{heard_events}
-use Rattle.lsp_explain.specs.Misfits.{AreMisfits}
+use Rattle.lsp_notes.specs.Misfits.{AreMisfits}
 use Rattle.lsp_explain.proofs.AccountSteps.{first_kept}
-use Rattle.lsp_explain.proofs.Misfitting.{found_kept-push}
+use Rattle.lsp_notes.proofs.Misfitting.{found_kept-push}
 use Rattle.lsp_explain.proofs.run.FirstOffenceAccount.event.Goals as goal
 
 -- it is kept

@@ -4,9 +4,9 @@ use Rattle.lsp_survey.proofs.SurveySteps.{clean_by}
 use Rattle.lsp_verdict.specs.Given.{offence_view, verdict_view}
 use Rattle.lsp_verdict.specs.Heard.{heard_events, notes_of}
 use Rattle.lsp_verdict.specs.Offences.{offences}
-use Rattle.lsp_explain.specs.ExplainRuns.{rests_held}
 use Rattle.lsp_explain.proofs.Ending.{all_closes, few_found, nos_listed}
-use Rattle.lsp_explain.proofs.Telling.{stands_at}
+use Rattle.lsp_origins.proofs.Telling.{stands_at}
+use Rattle.lsp_origins.specs.Explained.{rests_held}
 use Rattle.lsp_explain.proofs.run_all.AllCauses.close.Goals as goal
 
 pub returns : goal.returns

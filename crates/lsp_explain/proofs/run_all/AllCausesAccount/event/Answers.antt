@@ -8,8 +8,8 @@ use Rattle.lsp_replay.proofs.Wanting.{on_err}
 use Rattle.lsp_verdict.specs.Offences.{Offence}
 use Rattle.lsp_explain.proofs.AccountSteps.{all_kept, all_late, all_told, cause_wants, kept_wants}
 use Rattle.lsp_explain.proofs.AccountSteps.{lost_wants}
-use Rattle.lsp_explain.proofs.Telling.{told_of}
-use Rattle.lsp_explain.proofs.Trails.{trail_past}
+use Rattle.lsp_origins.proofs.Telling.{told_of}
+use Rattle.lsp_trail.proofs.Trails.{trail_past}
 use Rattle.lsp_explain.proofs.run_all.AllCausesAccount.event.Goals as goal
 
 -- it is kept

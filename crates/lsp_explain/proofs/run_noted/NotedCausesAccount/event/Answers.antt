@@ -4,11 +4,11 @@ use Rattle.lsp_facts.specs.Fact.{fact_lines}
 use Rattle.lsp_replay.specs.Telling.{ShowsFault}
 use Rattle.lsp_verdict.specs.Heard.{heard_events}
 use Rattle.lsp_replay.proofs.Wanting.{on_err}
-use Rattle.lsp_explain.specs.AllNotes.{AreAlong, notes_at}
+use Rattle.lsp_notes.specs.AllNotes.{AreAlong, notes_at}
 use Rattle.lsp_explain.specs.ExplainRuns.{AllStands}
-use Rattle.lsp_explain.proofs.NotedSteps.{noted_says, went_on}
-use Rattle.lsp_explain.proofs.Telling.{stands_at}
+use Rattle.lsp_origins.proofs.Telling.{stands_at}
 use Rattle.lsp_explain.proofs.run_noted.NotedCausesAccount.event.Goals as goal
+use Rattle.lsp_explain.proofs.NotedRuns.{noted_says, went_on}
 
 -- memory is refused
 pub returns-in_err-note-clause-memory : goal.returns-in_err-note-clause-memory

@@ -1,4 +1,4 @@
-use Rattle.std.proofs.Common.{string_bytes, sym, ◌∙◌}
+use Rattle.std.proofs.Common.{refl, string_bytes, sym, ◌∙◌}
 use Rattle.lsp_redact.specs.Names.{is_encoding}
 use Rattle.lsp_redact.proofs.NamesShown.{encoding_named, encoding_same}
 use Rattle.lsp_redact.proofs.names.Names.encoding.Goals as goal
@@ -6,7 +6,8 @@ use Rattle.lsp_redact.proofs.names.Names.encoding.Goals as goal
 pub returns-then-is_encoding : goal.returns-then-is_encoding
 returns-then-is_encoding c =
     encoding_same c.args.self.now c.args.name.now (string_bytes c.in_ok-same.same)
-    (is_encoding c.args.name.now) (sym c.is_encoding.ensures ∙ c.if-is_encoding.true) c.in_ok-same.ensures.ok
+    (is_encoding c.args.name.now) refl (sym c.is_encoding.ensures ∙ c.if-is_encoding.true)
+    c.in_ok-same.ensures.ok
 
 pub returns : goal.returns
 returns c =

@@ -10,13 +10,13 @@ use Rattle.lsp_redact.proofs.redacting.Redacting.say.Goals as goal
 
 pub loop-kept-init : goal.loop-kept-init
 loop-kept-init c =
-    say_none c.args.redaction.now (max c.args.self.now.most 1) c.args.format
+    say_none c.args.redaction.now (max c.args.most 1) c.args.format
     (string_bytes c.args.text.now) _ c.in_ok-push_first_line.ensures
 
 pub loop-kept-preserved : goal.loop-kept-preserved
 loop-kept-preserved c =
     say_more c.args.redaction.now c.loop-kept.redaction c.push_kept.new.redaction
-    (max c.args.self.now.most 1) c.args.format c.deref-kept-items.result.now c.loop-kept.kept-index
+    (max c.args.most 1) c.args.format c.deref-kept-items.result.now c.loop-kept.kept-index
     c.kept-item.result (string_bytes c.args.text.now) (string_bytes c.loop-kept.text) _
     c.loop-kept-test.true c.kept-item.is c.loop-kept.invariant c.in_ok-push_kept.ensures
 
@@ -24,7 +24,7 @@ pub returns : goal.returns
 returns c =
     subst (λ (ks : List code.Kept). Writes c.args.redaction.now c.loop-kept.redaction
     (names_in (map kept_view ks))
-    (λ n. string_bytes c.args.text.now ++ log_by (max c.args.self.now.most 1) c.args.format n
+    (λ n. string_bytes c.args.text.now ++ log_by (max c.args.most 1) c.args.format n
     c.args.redaction.now.apart (map kept_view ks)) (string_bytes c.loop-kept.text))
     (take_all c.loop-kept.kept-index c.deref-kept-items.result.now c.loop-kept-test.false
     ∙ c.deref-kept-items.ensures.value)

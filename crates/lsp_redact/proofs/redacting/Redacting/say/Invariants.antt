@@ -8,5 +8,5 @@ use Rattle.lsp_redact.proofs.redacting.Redacting.say.Given as goal
 abbrev pub invariant-loop-kept : goal.invariant-loop-kept
 invariant-loop-kept l =
     Writes l.fn.redaction l.redaction (names_in (map kept_view (take l.kept-index l.kept-items)))
-    (λ n. string_bytes l.fn.text ++ log_by (max l.self.most 1) l.fn.format n l.fn.redaction.apart
+    (λ n. string_bytes l.fn.text ++ log_by (max l.most 1) l.fn.format n l.fn.redaction.apart
     (map kept_view (take l.kept-index l.kept-items))) (string_bytes l.text)

@@ -6,7 +6,7 @@ use Rattle.lsp_redact.proofs.redacting.Redacting.say_last.Goals as goal
 
 pub returns-in_ok-push_kept-in-Some : goal.returns-in_ok-push_kept-in-Some
 returns-in_ok-push_kept-in-Some c = λ before event waits reads speaks of.
-    last_kept (max c.args.self.now.most 1) c.args.redaction.now c.push_kept.new.redaction
+    last_kept (max c.args.most 1) c.args.redaction.now c.push_kept.new.redaction
     (raw_view c.args.seen.now.raw) c.args.rule _ (kept_view c.in-Some.kept)
     (string_bytes c.args.text.now) (string_bytes c.push_kept.new.text)
     (sym (c.in_ok-kept.ensures before event waits reads speaks)
@@ -14,7 +14,7 @@ returns-in_ok-push_kept-in-Some c = λ before event waits reads speaks of.
 
 pub returns-in_ok-push_broken-in-None : goal.returns-in_ok-push_broken-in-None
 returns-in_ok-push_broken-in-None c = λ before event waits reads speaks of.
-    last_by (max c.args.self.now.most 1) c.args.redaction.now (raw_view c.args.seen.now.raw)
+    last_by (max c.args.most 1) c.args.redaction.now (raw_view c.args.seen.now.raw)
     c.args.rule before event (string_bytes c.args.text.now) (string_bytes c.push_broken.new.text)
     (sym (c.in_ok-kept.ensures before event waits reads speaks)
     ∙ ap (option_map kept_view) c.in-None.is)

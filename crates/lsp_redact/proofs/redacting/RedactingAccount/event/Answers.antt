@@ -1,25 +1,28 @@
-use Rattle.std.proofs.Common.{ap, refl, sym, subst, ◌∙◌, map, max, string_bytes}
+use Rattle.std.proofs.Common.{◌≡◌, ◌++◌, List, ℕ, ap, refl, sym, subst, ◌∙◌, map, max, string_bytes}
 use Rattle.lsp_docs.specs.Documents.{Terms}
 use Rattle.lsp_replay.specs.Telling.{HasFate, ShowsFault}
 use Rattle.lsp_replay.specs.declared.seen.Fate.{Fate}
 use Rattle.lsp_replay.proofs.AllHeard.{kept_seen}
 use Rattle.lsp_replay.proofs.Wanting.{on_err}
+use Rattle.lsp_verdict.specs.Given.{verdict_view}
 use Rattle.lsp_verdict.specs.Heard.{heard_events}
+use Rattle.lsp_verdict.specs.Offences.{Offence}
 use Rattle.lsp_verdict.specs.Placed.{Raw}
 use Rattle.lsp_redact.specs.Kept.{kept_of}
-use Rattle.lsp_redact.specs.Redacting.{AddsLast, format_by}
+use Rattle.lsp_redact.specs.Records.{most_of, written}
+use Rattle.lsp_redact.specs.Redacting.{AddsLast, format_by, shape_to}
 use Rattle.lsp_redact.specs.View.{kept_view}
 use Rattle.lsp_redact.proofs.AccountKeeps.{apart_here, own_reads, own_speaks}
-use Rattle.lsp_redact.proofs.AccountSteps.{fault_by, says_last, says_log, says_none}
+use Rattle.lsp_redact.proofs.AccountSteps.{fault_by, log_to, says_last, says_none}
 use Rattle.lsp_redact.proofs.redacting.RedactingAccount.event.Goals as goal
 
 pub returns-in_default : goal.returns-in_default
 returns-in_default c = record {
-  asked = ap (λ n. max n 1) c.keep.ensures.most;
+  asked = c.keep.ensures.limits;
   memory = tt;
   says = λ terms before h stands seen.
       let rule = kept_seen terms before h c.args.seen.now.fate c.in_default.not-Offends seen.fate in
-      says_none terms before h (max c.args.self.now.most 1) c.keep.new.self
+      says_none terms before h c.args.self.now.limits c.keep.new.self
       (ShowsFault c.args.seen.now.raw (heard_events before)) (string_bytes c.args.text.now) rule
       (c.in_ok-keep.ensures.keeps terms before h stands seen rule);
 }
@@ -40,6 +43,10 @@ pub returns-in_err-say_last-clause-memory : goal.returns-in_err-say_last-clause-
 returns-in_err-say_last-clause-memory c =
     on_err c.from_residual-in_err-say_last.result (λ terms before h stands seen. refl)
 
+pub returns-in_err-outcome-clause-memory : goal.returns-in_err-outcome-clause-memory
+returns-in_err-outcome-clause-memory c =
+    on_err c.from_residual-in_err-outcome.result (λ terms before h stands seen. refl)
+
 pub returns-in_err-boxed-clause-memory : goal.returns-in_err-boxed-clause-memory
 returns-in_err-boxed-clause-memory c =
     on_err c.from_residual-in_err-boxed.result (λ terms before h stands seen. refl)
@@ -49,20 +56,18 @@ returns c = record {
   asked = refl;
   memory = tt;
   says = λ terms before h stands seen.
-      let most = max c.args.self.now.most 1 in
+      let most = max c.most_of-most.result 1 in
       let rule = c.in-Offends.rule in
       let events = heard_events before in
       let event = h.note.event in
       let has = subst (λ (f : Fate). HasFate terms before h f) c.in-Offends.is seen.fate in
       let reads = own_reads terms before h _ _ _ c.args.seen.now seen stands.clean in
       let speaks = own_speaks terms before h _ _ _ c.args.seen.now seen stands.clean in
-      says_last most terms before h rule (ShowsFault c.args.seen.now.raw (heard_events before)) _
-      c.outcome_of-outcome.result c.in_ok-boxed.boxed (string_bytes c.args.text.now)
-      (string_bytes c.say_last.new.text) c.in_ok-boxed.ensures.ok has.0
-      (c.outcome_of-outcome.ensures terms before h seen.stood seen.few seen.is seen.noted has.0)
-      (says_log most terms events h.raw event rule (map kept_view c.args.self.now.kept.items)
+      let log : string_bytes c.say_last.new.text
+      ≡ written (most_of c.args.self.now.limits) (shape_to terms events h.raw event rule) =
+      log_to most terms events h.raw event rule (map kept_view c.args.self.now.kept.items)
       c.format_of.result c.new-redaction.result c.say.new.redaction c.say_last.new.redaction
-      (string_bytes c.args.text.now) (string_bytes c.say.new.text)
+      (string_bytes c.new-left.result) (string_bytes c.say.new.text)
       (string_bytes c.say_last.new.text) stands.kept_is
       (c.format_of.ensures ∙ ap (λ (t : Terms). format_by t.kept) seen.stood.by)
       c.new-redaction.ensures.names
@@ -74,5 +79,16 @@ returns c = record {
       (kept_of events event) (string_bytes c.say.new.text) (string_bytes c.say_last.new.text))
       (sym seen.is)
       (c.in_ok-say_last.ensures events event stands.awaits_is reads speaks
-      (fault_by terms before h rule has.0))));
+      (fault_by terms before h rule has.0)))
+      ∙ ap (λ (w : List ℕ). w ++ written most (shape_to terms events h.raw event rule))
+      c.new-left.ensures.bytes
+      ∙ ap (λ n. written n (shape_to terms events h.raw event rule)) c.most_of-most.ensures in
+      says_last c.args.self.now.limits terms before h rule
+      (ShowsFault c.args.seen.now.raw (heard_events before)) _ c.in_ok-outcome.outcome
+      c.in_ok-boxed.boxed c.as_str.result.now (verdict_view c.verdict-verdict.result)
+      (string_bytes c.args.text.now) (string_bytes c.put_checked.new.text)
+      c.in_ok-boxed.ensures.ok has.0 (c.as_str.ensures.value ∙ log)
+      (c.verdict-verdict.ensures ∙ ap (λ (o : Offence). o.no)
+      (c.last_offence.ensures before h seen.stood.counted seen.few seen.is seen.noted))
+      c.in_ok-outcome.ensures;
 }

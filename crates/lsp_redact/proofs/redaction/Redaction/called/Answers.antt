@@ -5,7 +5,7 @@ use Rattle.lsp_rpc.specs.Act.{Text}
 use Rattle.lsp_rpc.specs.Ident.{Ident, id_view}
 use Rattle.lsp_rpc.specs.View.{act_view}
 use Rattle.lsp_redact.specs.Messages.{call_members, id_data, params_of}
-use Rattle.lsp_redact.specs.Names.{call_names, shown_id, shown_method}
+use Rattle.lsp_redact.specs.Names.{call_names, shown_id, shown_method, written_method}
 use Rattle.lsp_redact.specs.Naming.{Writes}
 use Rattle.lsp_redact.specs.Shown.{shown_act}
 use Rattle.lsp_redact.specs.declared.redaction.Redaction.{Redaction}
@@ -24,7 +24,7 @@ returns c =
     let own : Option Data = option_map view c.in_ok-own.own in
     let name : Text = string_bytes c.in_ok-name.name in
     let front : Writes start mid (call_names id method)
-    (λ n. make (option_map id_data (option_map (shown_id n) id)) (shown_method n method))
+    (λ n. make (option_map id_data (option_map (shown_id n) id)) (written_method (shown_method n method)))
     (make own name) =
     writes_both make (make own name) refl c.in_ok-own.ensures
     (record { same = refl; shows = c.in_ok-name.ensures }) in

@@ -4,7 +4,7 @@ use Rattle.serde_json.specs.View.{view}
 use Rattle.lsp_rpc.specs.Act.{Text}
 use Rattle.lsp_rpc.specs.View.{texts_view}
 use Rattle.lsp_redact.specs.Messages.{list, registration_data}
-use Rattle.lsp_redact.specs.Names.{method_names, shown_method}
+use Rattle.lsp_redact.specs.Names.{method_names, shown_method, written_method}
 use Rattle.lsp_redact.specs.Naming.{Shows, Writes}
 use Rattle.lsp_redact.proofs.Showing.{writes_made, writes_start}
 use Rattle.lsp_redact.proofs.ShownLists.{registrations_more}
@@ -19,7 +19,7 @@ loop-method-preserved c =
     c.loop-method.self c.method.new.self c.loop-method.shown.items c.push.new.list.items
     c.in_ok-text.text c.in_ok-value.value c.loop-method-test.true c.method-item.is c.loop-method.invariant
     (subst (λ (t : Text). Shows c.loop-method.self.names c.method.new.self (method_names (t ∷ []))
-    (λ n. shown_method n t) (string_bytes c.in_ok-text.text)) c.as_str.ensures.value
+    (λ n. written_method (shown_method n t)) (string_bytes c.in_ok-text.text)) c.as_str.ensures.value
     c.in_ok-text.ensures) c.in_ok-value.ensures c.in_ok-push.ensures.ok
 
 pub returns : goal.returns

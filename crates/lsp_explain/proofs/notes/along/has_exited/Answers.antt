@@ -1,8 +1,0 @@
-use Rattle.std.proofs.Common.{◌∙◌, ap}
-use Rattle.lsp_session.specs.declared.phase.Phase.TheVariants.{Exited}
-use Rattle.lsp_explain.specs.Asking.{same_phase}
-use Rattle.lsp_explain.proofs.notes.along.has_exited.Goals as goal
-
-pub returns : goal.returns
-returns c = λ before stands.
-    c.is_exited.ensures ∙ ap (λ p. same_phase p Exited) (c.phase.ensures before stands)

@@ -1,6 +1,0 @@
-use Rattle.std.proofs.Common.{◌∙◌}
-use Rattle.lsp_explain.proofs.DocumentNoting.{held_on}
-use Rattle.lsp_explain.proofs.notes.document_notes.has_note.Goals as goal
-
-pub returns : goal.returns
-returns c = c.any_on.ensures ∙ held_on c.args.uri.now c.args.notes.now

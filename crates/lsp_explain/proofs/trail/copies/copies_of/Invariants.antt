@@ -1,6 +1,0 @@
-use Rattle.std.proofs.Common.{◌≡◌, take}
-use Rattle.lsp_text.specs.Changes.{edits_of}
-use Rattle.lsp_explain.proofs.trail.copies.copies_of.Given as goal
-
-abbrev pub invariant-loop-change : goal.invariant-loop-change
-invariant-loop-change l = edits_of l.copies.items ≡ edits_of (take l.change-index l.changes)

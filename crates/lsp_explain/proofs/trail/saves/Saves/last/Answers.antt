@@ -1,6 +1,0 @@
-use Rattle.std.proofs.Common.{◌∙◌, ap}
-use Rattle.lsp_explain.specs.Openings.{last_on}
-use Rattle.lsp_explain.proofs.trail.saves.Saves.last.Goals as goal
-
-pub returns : goal.returns
-returns c = λ terms events are. c.last_on.ensures ∙ ap (last_on c.args.uri.now) are

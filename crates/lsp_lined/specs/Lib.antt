@@ -1,0 +1,12 @@
+pub mod Counted
+pub mod Steps
+pub mod Ends
+pub mod Sums
+pub mod Parts
+pub mod Blocks
+pub mod Chunks
+pub mod Trees
+pub mod Patches
+pub mod Windows
+pub mod LentLines
+pub mod Walks

@@ -1,0 +1,16 @@
+pub mod DocumentNotes
+pub mod MessageNotes
+pub mod Misfits
+pub mod Requests
+pub mod Refusals
+pub mod Spellings
+pub mod TextEdits
+pub mod EditRequests
+pub mod TextsSince
+pub mod AtOnce
+pub mod LateEdits
+pub mod Unsent
+pub mod ServerEdits
+pub mod Notes
+pub mod Behind
+pub mod AllNotes

@@ -1,0 +1,8 @@
+pub mod SaidFacts
+pub mod Fitting
+pub mod ToldFacts
+pub mod Rearranging
+pub mod OtherLineSteps
+pub mod Telling
+pub mod Written
+pub mod TracesWorked

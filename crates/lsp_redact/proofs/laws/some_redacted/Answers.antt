@@ -1,5 +1,0 @@
-use Rattle.lsp_redact.proofs.RedactedLaws as proved
-use Rattle.lsp_redact.proofs.laws.some_redacted.Goals as goal
-
-pub returns : goal.returns
-returns c = proved.some_redacted

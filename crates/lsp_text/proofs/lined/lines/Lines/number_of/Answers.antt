@@ -1,6 +1,0 @@
-use Rattle.lsp_text.proofs.HeldText.{holds, number_held}
-use Rattle.lsp_text.proofs.lined.lines.Lines.number_of.Goals as goal
-
-pub returns : goal.returns
-returns c =
-    number_held c.self.inside.held.sums c.args.self.now c.args.position c.min.result (holds c.self.inside.held c.args.self.now c.self.invariant c.self.view_is) c.min.ensures

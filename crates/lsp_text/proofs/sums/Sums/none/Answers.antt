@@ -1,5 +1,0 @@
-use Rattle.lsp_text.proofs.PartSteps.{sums_of-nil}
-use Rattle.lsp_text.proofs.sums.Sums.none.Goals as goal
-
-pub returns : goal.returns
-returns c = sums_of-nil

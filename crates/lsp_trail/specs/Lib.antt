@@ -1,0 +1,17 @@
+pub mod History
+pub mod Asking
+pub mod Marking
+pub mod Openings
+pub mod Naming
+pub mod Saves
+pub mod Spelled
+pub mod LastChange
+pub mod StandardMethods
+pub mod SessionNotes
+pub mod Renames
+pub mod Conversations
+pub mod SentEdits
+pub mod Bases
+pub mod Uncompared
+pub mod Trails
+pub mod Breaches
