@@ -90,7 +90,8 @@ def ends_by(program, place, log, number, send):
     assert until(lambda: children.exists() and children.read_text().count("\n") == 3)
     send(process, number)
     assert process.wait(SECONDS) == -number, process.stderr.read()
-    assert process.stderr.read().decode() == f"lspcheck-replay: stopped by {number.name}\n"
+    said = process.stderr.read().decode()
+    assert said == f"lspcheck-replay: stopped by {number.name}\n", said
     assert not (place / "new.log").exists()
     leaves_nothing(place, children)
 
