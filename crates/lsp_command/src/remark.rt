@@ -1,6 +1,7 @@
 //! What is said on standard error about how a run ended.
-ghost use Rattle.std.specs.Prelude.{◌≡◌, IfOk, IfErr, option_map, string_bytes};
+ghost use Rattle.std.specs.Prelude.{◌≡◌, Ok, Err, Some, IfOk, IfErr, option_map, string_bytes};
 ghost use Rattle.lsp_verdict.specs.declared.outcome.RunFault.TheVariants as faults;
+ghost use Rattle.lsp_command.specs.declared.task_outcome.TaskOutcome.TheVariants as tasks;
 ghost use Rattle.lsp_command.specs.Remarks.{remark_of, report_apart, run_report_apart};
 
 use crate::command_line::{Rewrite, Task};
@@ -9,25 +10,51 @@ use lsp_judge::{EventOutcome, Mode, Outcome, RunFault, Verdict};
 use lsp_verdict::{frame_report, verdict_report};
 use std::alloc::Global;
 
+/// The fixed words for how a run over a log or a stream ended.
+fn remark_of_outcome(outcome: &Outcome) -> Option<&'static str>
+    ensures { option_map (λ words. words.now) result ≡ remark_of (Ok (tasks.Run outcome.now)) }
+{
+    match outcome {
+        Outcome::NoDocument => Some("no such document"),
+        Outcome::TooFew => Some("fewer editor messages"),
+        Outcome::NoDifference => Some("no texts differ: the verdict is neither 608 nor 702"),
+        Outcome::Unlike => {
+            Some("this log can't be redacted: without its words it has another verdict")
+        }
+        Outcome::Done | Outcome::Judged(_) | Outcome::Stream { .. } => None,
+    }
+}
+
+/// The fixed words for how a run for one event ended.
+fn remark_of_event(outcome: EventOutcome) -> Option<&'static str>
+    ensures { option_map (λ words. words.now) result ≡ remark_of (Ok (tasks.Event outcome)) }
+{
+    match outcome {
+        EventOutcome::NoContent => Some("no content"),
+        EventOutcome::FewerEvents => Some("fewer events"),
+        EventOutcome::Done | EventOutcome::BadLog { .. } => None,
+    }
+}
+
+/// The fixed words for a fault.
+fn remark_of_fault(fault: RunFault) -> &'static str
+    ensures { Some result.now ≡ remark_of (Err fault) }
+{
+    match fault {
+        RunFault::Read => "lspcheck: read fault",
+        RunFault::Write => "lspcheck: write fault",
+        RunFault::Memory => "lspcheck: out of memory",
+    }
+}
+
 /// The fixed words for how a task ended, without their line end, where there are any.
 pub fn remark_of(ended: &Result<TaskOutcome, RunFault>) -> Option<&'static str>
     ensures { option_map (λ words. words.now) result ≡ remark_of ended.now }
 {
     match ended {
-        Ok(TaskOutcome::Run(Outcome::NoDocument)) => Some("no such document"),
-        Ok(TaskOutcome::Run(Outcome::TooFew)) => Some("fewer editor messages"),
-        Ok(TaskOutcome::Run(Outcome::NoDifference)) => {
-            Some("no texts differ: the verdict is neither 608 nor 702")
-        }
-        Ok(TaskOutcome::Run(Outcome::Unlike)) => {
-            Some("this log can't be redacted: without its words it has another verdict")
-        }
-        Ok(TaskOutcome::Event(EventOutcome::NoContent)) => Some("no content"),
-        Ok(TaskOutcome::Event(EventOutcome::FewerEvents)) => Some("fewer events"),
-        Ok(_) => None,
-        Err(RunFault::Read) => Some("lspcheck: read fault"),
-        Err(RunFault::Write) => Some("lspcheck: write fault"),
-        Err(RunFault::Memory) => Some("lspcheck: out of memory"),
+        Ok(TaskOutcome::Run(outcome)) => remark_of_outcome(outcome),
+        Ok(TaskOutcome::Event(outcome)) => remark_of_event(*outcome),
+        Err(fault) => Some(remark_of_fault(*fault)),
     }
 }
 
