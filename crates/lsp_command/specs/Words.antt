@@ -22,8 +22,8 @@ use Rattle.lsp_verdict.specs.declared.outcome.Mode.{Mode}
 use Rattle.lsp_verdict.specs.declared.outcome.Mode.TheVariants.{Lengths, Canonical, Kinds}
 use Rattle.lsp_verdict.specs.declared.listing.Listing.{Listing}
 use Rattle.lsp_verdict.specs.declared.listing.Listing.TheVariants.{Causes, Every}
-use Rattle.lsp_explain.specs.declared.compared.ComparedText.{ComparedText}
-use Rattle.lsp_explain.specs.declared.compared.ComparedText.TheVariants.{ByMessages, InEditor}
+use Rattle.lsp_facts.specs.declared.two_texts.ComparedText.{ComparedText}
+use Rattle.lsp_facts.specs.declared.two_texts.ComparedText.TheVariants.{ByMessages, InEditor}
 use Rattle.lsp_replay.specs.declared.form.Form.{Form}
 use Rattle.lsp_replay.specs.declared.form.Form.TheVariants as forms
 use Rattle.lsp_command.specs.declared.command_line.task.Explanation.{Explanation}

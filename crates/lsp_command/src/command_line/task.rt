@@ -3,7 +3,7 @@ ghost use Rattle.std.specs.Prelude.{◌≡◌};
 ghost use Rattle.lsp_command.specs.Several.{is_several, line_task, standard_inputs};
 ghost use Rattle.lsp_command.specs.Words.{limits_by};
 
-use lsp_explain::ComparedText;
+use lsp_facts::ComparedText;
 use lsp_frame::Limits;
 use lsp_replay::Form;
 use lsp_types::LineEnds;

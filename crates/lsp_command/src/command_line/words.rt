@@ -10,7 +10,7 @@ ghost use Rattle.lsp_command.specs.Words.{listing_of, mode_of, rows_in};
 
 use crate::command_line::task::{Explanation, Extent, Report, Request, Rewrite, Task};
 use clap::{ArgMatches, Error};
-use lsp_explain::ComparedText;
+use lsp_facts::ComparedText;
 use lsp_replay::Form;
 use lsp_types::LineEnds;
 use lsp_verdict::{Completeness, Lines, Listing, Mode};
