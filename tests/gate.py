@@ -69,6 +69,17 @@ MOST_SAID, SHOWN = 1 << 20, 3
 NICENESS = 10
 
 
+# How many bytes of memory a proof may take.
+PROOF_TAKES = 5_000_000_000
+
+
+def jobs(width):
+    """How many proofs `rt ci` runs at once. If it isn't told, it leaves processors idle, since it expects
+    a proof to need four times the memory that it takes."""
+    memory = os.sysconf("SC_PHYS_PAGES") * os.sysconf("SC_PAGE_SIZE")
+    return max(1, min(width, memory // PROOF_TAKES))
+
+
 class Gate:
     """The tasks, and the folder in which a program is compiled with checks: `rt ci` refuses a second
     copy of the sources below this one."""
@@ -117,7 +128,8 @@ class Gate:
         words[0] = words[0] if command == PROOFS else str((self.copy if command == COMPILES else TOP) / words[0])
         if ANY in command.split() and PROVED not in found:
             task.title += ", over a program with checks"
-        task.start(words, 0 if command == PROOFS or PROOFS not in self.tasks else NICENESS)
+        settings = {"RT_JOBS": str(jobs(self.width))} if command == PROOFS else {}
+        task.start(words, 0 if command == PROOFS or PROOFS not in self.tasks else NICENESS, **settings)
 
     def lay_out(self):
         """Copies what ./run needs, and the program that it has kept, if any."""

@@ -30,7 +30,8 @@ QUICK = ["tests/guarantees", "tests/links", "tests/words", "tests/of_run", "test
 
 # Each script notes that it begins and ends. rt goes on until one of the others has ended, and after it
 # has said that the program is proved, until one runs over that. None gets a setting of the caller's
-# Python, and rt no number of jobs. What runs over a program gets its path, and ends if there is none.
+# Python, and rt at most as many jobs as there are processors. What runs over a program gets its path,
+# and ends if there is none.
 STUB = """#!/bin/sh
 top='{top}'
 case {name}$1 in
@@ -43,7 +44,8 @@ tries=0
 while [ {name} = rt ] && [ $tries -lt 999 ] && ! grep -q "^ends" "$top/log"; do tries=$((tries + 1)); sleep 0.1; done
 sleep {seconds}
 echo "ends {name}" >> "$top/log"
-if env | grep -q -e ^PYTHON -e ^RT_JOBS; then exit 1; fi
+if env | grep -q ^PYTHON; then exit 1; fi
+if [ {name} = rt ] && [ "$RT_JOBS" -gt "$(nproc)" ]; then exit 1; fi
 case "$*" in *PROVED*|*ANY*) exit 1;; *[/]lspcheck*) [ -e "${{*#*--few }}" ] || [ -e "${{1}}" ] || exit 1;; esac
 case {name} in
     rt)

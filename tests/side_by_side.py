@@ -52,8 +52,8 @@ class Task:
     def has_failed(self):
         return self.status is not None and (self.status != 0 or self.counts()[1] > 0)
 
-    def start(self, words, niceness):
-        how = {"stdin": subprocess.DEVNULL, "stdout": self.output, "stderr": subprocess.STDOUT}
+    def start(self, words, niceness, **settings):
+        how = {"env": {**os.environ, **settings}, "stdin": subprocess.DEVNULL, "stdout": self.output, "stderr": subprocess.STDOUT}
         self.begun = time.monotonic()
         try:
             with held():
