@@ -7,9 +7,11 @@ many at a time as there are processors.
 """
 
 import os
+import re
 import shutil
 import sys
 import tempfile
+import time
 from pathlib import Path
 
 sys.dont_write_bytecode = True
@@ -57,6 +59,12 @@ QUICK = ["tests/guarantees", "tests/links", "tests/words", "tests/run --few", "t
 # What ./run compiles, what it is made of, and what it kept.
 COPIED = ["crates.txt", "crates/*/src/**/*.rt", "run", "tests/*.py", "recorders/*.py", "page/*.py", "out/lspcheck*"]
 
+# What rt ci says when it has proved a crate.
+IS_PROVED = re.compile(rb"^(\w+) proved$", re.MULTILINE)
+
+# How many bytes of what it says are looked at at once, and how many seconds a step takes that is named with its time.
+MOST_SAID, SHOWN = 1 << 20, 3
+
 # The priority that the tests give up for the proofs.
 NICENESS = 10
 
@@ -69,6 +77,7 @@ class Gate:
         self.tasks = {it: Task(" ".join(word for word in it.split() if word not in (PROVED, ANY))) for it in commands}
         self.copy = folder / "copy"
         self.width = len(os.sched_getaffinity(0))
+        self.begun, self.proved, self.read = time.monotonic(), {}, 0
 
     def is_over(self, command):
         return command not in self.tasks or self.tasks[command].is_over()
@@ -91,6 +100,7 @@ class Gate:
     def start(self):
         """Starts each task that may run by now, and gives up those that never will."""
         found = self.programs()
+        self.note_proved()
         for command, task in self.tasks.items():
             lacking = {PROVED, ANY} & set(command.split()) - set(found)
             if not task.is_waiting():
@@ -116,9 +126,30 @@ class Gate:
             target.parent.mkdir(parents=True, exist_ok=True)
             shutil.copy(path, target)
 
+    def minutes(self, moment):
+        return f"{(moment - self.begun) / 60:.1f}"
+
+    def note_proved(self):
+        """Notes when rt ci said of a crate that it has proved it."""
+        if (task := self.tasks.get(PROOFS)) and task.begun:
+            said = os.pread(task.output.fileno(), MOST_SAID, self.read)
+            whole = said[: said.rfind(b"\n") + 1]
+            self.read += len(whole)
+            self.proved |= {it.decode(): time.monotonic() for it in IS_PROVED.findall(whole)}
+
+    def tell_times(self):
+        """Says how long each step took, and when each crate was proved."""
+        steps = [f"{it.name} {it.seconds() / 60:.1f}" for it in self.tasks.values() if it.seconds() >= SHOWN]
+        whole = self.minutes(time.monotonic())
+        print(f"./test: minutes on {self.width} processors: {', '.join([f'{whole} in all', *steps])}")
+        if self.proved:
+            times = (f"{name} {self.minutes(moment)}" for name, moment in self.proved.items())
+            print(f"./test: proved after minutes: {', '.join(times)}")
+
     def told(self):
-        """Says what failed and what was not run, and counts all checks; the status."""
+        """Says where the time went, what failed and what was not run, and counts all checks; the status."""
         tasks = self.tasks.values()
+        self.tell_times()
         for what, names in [
             ("failed", [it.name for it in tasks if it.has_failed()]),
             ("not run", [it.name for it in tasks if it.why_not]),
