@@ -2,8 +2,8 @@
 
 Alongside the proofs run those that need no program, and those for which it is only a tool, over one
 that is compiled with checks: at most half as many as there are processors, and with less
-priority. What looks at the program itself runs over the proved one, when the proofs have passed, as
-many at a time as there are processors.
+priority. What looks at the program itself runs over the proved one, as soon as that is proved:
+alongside the proofs that are left, and then as many at a time as there are processors.
 """
 
 import os
@@ -60,7 +60,7 @@ QUICK = ["tests/guarantees", "tests/links", "tests/words", "tests/run --few", "t
 COPIED = ["crates.txt", "crates/*/src/**/*.rt", "run", "tests/*.py", "recorders/*.py", "page/*.py", "out/lspcheck*"]
 
 # What rt ci says when it has proved a crate.
-IS_PROVED = re.compile(rb"^(\w+) proved$", re.MULTILINE)
+IS_PROVED = re.compile(rb"^rt: (\w+) proved$", re.MULTILINE)
 
 # How many bytes of what it says are looked at at once, and how many seconds a step takes that is named with its time.
 MOST_SAID, SHOWN = 1 << 20, 3
@@ -87,7 +87,7 @@ class Gate:
 
     def programs(self):
         """The programs that there are by now, by the words that stand for them."""
-        if self.has_passed(PROOFS):
+        if self.has_passed(PROOFS) or "lspcheck" in self.proved:
             proved = TOP / "crates/lspcheck/out/lspcheck"
             return {PROVED: proved, ANY: proved}
         return {ANY: self.copy / "out/lspcheck"} if self.has_passed(COMPILES) else {}
@@ -99,8 +99,8 @@ class Gate:
 
     def start(self):
         """Starts each task that may run by now, and gives up those that never will."""
-        found = self.programs()
         self.note_proved()
+        found = self.programs()
         for command, task in self.tasks.items():
             lacking = {PROVED, ANY} & set(command.split()) - set(found)
             if not task.is_waiting():
