@@ -10,7 +10,7 @@ import time
 
 import sessions
 from processes import SECONDS, SIGNALS, is_running, until, with_signals
-from trials import COMMAND, HASTY, SERVER, named, run, run_waiting
+from trials import COMMAND, HASTY, SERVER, check, named, run, run_waiting
 from usage import put, small_session
 
 # The speed: this many messages and a search, in at most this many seconds on an idle machine, and ten
@@ -19,10 +19,15 @@ MESSAGES, MOST = 500, 60
 
 
 def says_that_the_server_ended(program, place):
-    """With its last words, of which a terminal obeys none."""
+    """With its last words, of which a terminal obeys none. One that ends at once ends at no message."""
     log = put(place, small_session().end())
     # The fourth message of the editor is an answer, and the server gets the others.
     done = run(program, log, "ends=5")
+    lines = done.stdout.splitlines()
+    assert done.returncode == 1 and any(it.startswith("ends after editor 6 event 8 ") for it in lines), done
+    said = [it for it in lines if it.startswith("stderr ")]
+    assert said == ['stderr "out of luck"', 'stderr "\\u001b[31mat the end"'], lines
+    done = run(program, log, "ends=2")
     refuses_first(done, r"python\S* ended with status 3 after editor \d+ event \d+; its standard error ends:")
     assert done.stderr.splitlines()[1:] == ["  out of luck", "   [31mat the end"], done.stderr
     done = run(program, log, server=["sh", "-c", "kill -9 $$"])
@@ -71,9 +76,10 @@ def to_another_thread(process, number):
 
 def leaves_no_process(program, place):
     """Each server starts a process of its own. They end with the command, however that ends."""
-    log = put(place, small_session().end())
+    log, temporary = put(place, small_session().end()), place / "temporary"
+    temporary.mkdir()
     ends_alone(program, place, log)
-    for number in SIGNALS:
+    for number in (*SIGNALS, signal.SIGQUIT):
         ends_by(program, place, log, number, subprocess.Popen.send_signal)
     ends_by(program, place, log, signal.SIGINT, to_another_thread)
 
@@ -87,12 +93,14 @@ def ends_alone(program, place, log):
 def ends_by(program, place, log, number, send):
     """With a signal, three servers run, and none of them answers."""
     process, children = with_children(program, place, log, "mute=textDocument/formatting")
-    assert until(lambda: children.exists() and children.read_text().count("\n") == 3)
+    # The first one has ended.
+    assert until(lambda: children.exists() and children.read_text().count("\n") == 4)
     send(process, number)
     assert process.wait(SECONDS) == -number, process.stderr.read()
     said = process.stderr.read().decode()
     assert said == f"lspcheck-replay: stopped by {number.name}\n", said
-    assert not (place / "new.log").exists()
+    # The log of the replay was whole by then.
+    assert check(program, place / "new.log") == "yes"
     leaves_nothing(place, children)
 
 
@@ -102,7 +110,13 @@ def with_children(program, place, log, *faults):
     options = ["--wait", SECONDS, "--program", program, "--write", place / "new.log"]
     command = [sys.executable, HASTY, *options, log, *SERVER, "lose=2", f"child={children}", *faults]
     outputs = {"stdout": subprocess.DEVNULL, "stderr": subprocess.PIPE}
-    return subprocess.Popen(list(map(str, command)), preexec_fn=with_signals, **outputs), children
+    outputs["env"] = {**os.environ, "TMPDIR": str(place / "temporary")}
+    return subprocess.Popen(list(map(str, command)), preexec_fn=with_every_signal, **outputs), children
+
+
+def with_every_signal():
+    with_signals()
+    signal.signal(signal.SIGQUIT, signal.SIG_DFL)
 
 
 def leaves_nothing(place, children):
@@ -115,6 +129,7 @@ def leaves_nothing(place, children):
     assert not running, started
     children.unlink()
     (place / "new.log").unlink(missing_ok=True)
+    assert list((place / "temporary").iterdir()) == [], list((place / "temporary").iterdir())
     assert not [it for it in place.iterdir() if it.name.startswith(".")], list(place.iterdir())
 
 

@@ -16,7 +16,10 @@ SERVER = [sys.executable, "-IS", HERE / "server.py"]
 # How many trials run at a time.
 WIDTH = 4
 
-DIFFERS = re.compile(r'differs after editor (\d+) event (\d+) notification "textDocument/did\w+"')
+DIFFERS = re.compile(r'answers differ after editor (\d+) event (\d+) notification "textDocument/did\w+"')
+# How many questions the server of the tests is asked about a document: three, and these once the lines are
+# overwritten. Diagnostics are none, since it has none.
+QUESTIONS = 6
 
 
 def run(program, log, *faults, options=(), command=HASTY, server=SERVER, **how):
