@@ -355,7 +355,7 @@ def says_what_others_say(program, place_of):
 
 
 def runs_as_many_servers_as_it_says(program, place_of):
-    """A long log, and a server that says how many of it run when it starts."""
+    """Also where the search tries several messages of a long log at once."""
     long, short = (
         put(place_of, session_of([fault], messages, {"asks": 0})[0], f"{messages}.log")
         for fault, messages in (("lose=50", 260), ("lose=5", 20))
@@ -368,8 +368,8 @@ def runs_as_many_servers_as_it_says(program, place_of):
     frugal = place_of / "frugal.py"
     frugal.write_text(FRUGAL.format([str(TOP / it) for it in ("replay", "page", "recorders")], str(HASTY)))
     for options, most, command, log, fault in [
-        (["--jobs", 1], 1, HASTY, long, "lose=50"),
-        (["--jobs", 2], 2, HASTY, long, "lose=50"),
+        (["--jobs", 1], 1, HASTY, short, "lose=5"),
+        (["--jobs", 2], 2, HASTY, short, "lose=5"),
         ([], 4, HASTY, long, "lose=50"),
         ([], 1, frugal, short, "lose=5"),
     ]:
@@ -387,10 +387,11 @@ import trial
 trial.MUCH_MEMORY = 1
 runpy.run_path({1!r}, run_name="__main__")
 """
-# Each server has a file that is locked until it has ended: on a busy machine, the number of a process soon
-# is that of another one.
+# Each server has a file that is locked until it has ended, which it takes its time for: on a busy machine,
+# the number of a process soon is that of another one.
 WATCHED = """
-import fcntl, os, runpy, uuid
+import atexit, fcntl, os, runpy, time, uuid
+atexit.register(time.sleep, 0.2)
 def is_locked(name):
     with open(os.path.join({1!r}, name)) as file:
         try:
