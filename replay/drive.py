@@ -1,32 +1,65 @@
 """Runs of a server: the messages of the log again, or the texts at one moment in a fresh one."""
 
 import json
+import threading
 from concurrent.futures import ThreadPoolExecutor
-from contextlib import contextmanager
+from functools import lru_cache
 
 import messages
+from children import Fault
 from messages import Message, key_of, member
 from recording import AT_THE_END, encoding_of
 from replies import Replies
-from servers import Fault, Server
+from servers import Server, TimedOut
 
 # The most requests that a server may leave unanswered, although the log has their answers.
 MOST_SILENT = 3
 # What a fresh server is sent of the log.
-GREETING = ("initialize", "initialized", "workspace/didChangeConfiguration")
+GREETING = (
+    "initialize",
+    "initialized",
+    "workspace/didChangeConfiguration",
+    "workspace/didChangeWorkspaceFolders",
+)
+# A method that no server has. Each answers a request of it, if only with an error.
+NOTHING = "lspcheck/nothing"
+# How many texts are kept of those that lspcheck has given.
+KEPT_TEXTS = 64
+
+
+class Slots:
+    """How many servers may run at a time: each waits until another one has ended."""
+
+    def __init__(self, most):
+        self.most, self.running, self.condition = most, 0, threading.Condition()
+
+    def take(self):
+        with self.condition:
+            self.condition.wait_for(lambda: self.running < self.most)
+            self.running += 1
+
+    def give(self):
+        with self.condition:
+            self.running -= 1
+            self.condition.notify_all()
 
 
 class Setting:
     """What all runs have in common."""
 
-    def __init__(self, program, recording, command, wait, folders):
+    def __init__(self, program, recording, command, wait, folders, jobs):
         self.program, self.recording, self.command = program, recording, command
-        self.wait, self.folders = wait, folders
+        self.wait, self.folders, self.slots = wait, folders, Slots(jobs)
         # The requests that a run has waited for in vain, by their numbers.
         self.silent = {}
+        self.text = lru_cache(KEPT_TEXTS)(self.text_of)
+
+    @property
+    def jobs(self):
+        return self.slots.most
 
     def start(self, tape=None):
-        replies = Replies(self.recording.replies)
+        replies = Replies(self.recording.replies, self.recording.configuration)
         return Server(self.command, replies, self.recording.free_id, tape)
 
     def goodbye(self):
@@ -37,7 +70,7 @@ class Setting:
     def no_answer(self):
         return f"gave no answer in {self.wait:g} seconds (see --wait) to"
 
-    def text(self, number, uri):
+    def text_of(self, number, uri):
         """The text that the server should hold after a message, or None if there is none."""
         done = self.program.run(["text", "--quiet", str(number), uri])
         return done.stdout.decode("utf-8", "replace") if done.returncode == 0 else None
@@ -61,48 +94,90 @@ class Run:
 
     def __init__(self, setting, tape=None):
         self.setting, self.tape = setting, tape
-        self.server = setting.start(tape)
         self.capabilities, self.name = {}, None
         # The place of the next step; the requests that were sent, and how they were answered, by
-        # their numbers; the ids of the questions.
-        self.at, self.sent, self.answered, self.questions = 0, {}, {}, set()
-        self.when = "before it was sent anything"
+        # their numbers; the versions of documents that were sent here, and not in the log.
+        self.at, self.sent, self.answered, self.versions = 0, {}, {}, {}
+        # The last message of the log that was sent, and when that was, in words.
+        self.number, self.when = 0, "before it was sent anything"
+        self.folder = setting.folders.of_server()
+        setting.slots.take()
+        try:
+            self.server = setting.start(tape)
+        except BaseException:
+            setting.slots.give()
+            raise
 
     def __enter__(self):
         return self
 
     def __exit__(self, *_):
-        self.server.end(self.setting.goodbye())
+        try:
+            self.server.end(self.setting.goodbye())
+        finally:
+            self.setting.slots.give()
+            self.folder.remove()
 
     def check(self):
         self.server.check_running(self.when)
 
-    def begin(self, number, documents):
+    def begin(self, number, documents, changed=(), idle=0):
         """Greets the server as the log does up to a message, with its settings, and opens documents
-        with their texts. What follows that message can then be sent."""
+        with their texts: in a `didOpen` or, for the URIs `changed`, in a change without a range
+        after one that is empty, and `idle` changes. What follows that message can then be sent."""
         for message in self.setting.recording.messages[:number]:
             if message.method in GREETING:
                 self.send(message)
                 if message.method == "initialize":
                     self.wait_for(message)
         for document, text in documents:
-            uri = self.setting.folders.uri_of(document.uri)
-            opened = messages.opened(uri, document.language, document.version, text)
-            self.server.send(opened)
-            self.when = f"after didOpen of {json.dumps(uri)}"
+            is_changed = document.uri in changed
+            self.open(document, "" if is_changed else text)
+            if is_changed:
+                self.idle(document.uri, idle)
+                self.change(document.uri, [{"text": text}])
         self.at = self.setting.recording.step_after(number)
         self.check()
 
+    def open(self, document, text):
+        """Opens a document."""
+        uri, version = self.setting.folders.uri_of(document.uri), document.number
+        self.server.send(messages.opened(uri, document.language, version, text))
+        self.versions[document.uri] = version
+        self.when = f"after didOpen of {json.dumps(uri)}"
+
+    def change(self, uri, changes):
+        """Changes a document, whose version then is the next one."""
+        self.versions[uri] += 1
+        named = self.setting.folders.uri_of(uri)
+        self.server.send(messages.changed(named, self.versions[uri], changes))
+        self.when = f"after didChange of {json.dumps(named)}"
+
+    def idle(self, uri, count):
+        """Sends changes that change nothing."""
+        place = {"line": 0, "character": 0}
+        for _ in range(count):
+            self.change(uri, [{"range": {"start": place, "end": place}, "text": ""}])
+
+    def save(self, uri):
+        """Says that a document was saved."""
+        self.server.send(messages.saved(self.setting.folders.uri_of(uri)))
+
     def advance(self, number):
         """Sends all messages up to this one, and waits for the answers that the log has to them."""
-        steps = self.setting.recording.steps
-        while self.at < len(steps) and not is_after(steps[self.at], number):
-            self.take(steps[self.at])
-            self.at += 1
+        self.send_until(number)
         for request in self.sent.values():
             if request.answer or request.method == "initialize":
                 self.wait_for(request)
         self.check()
+        documents = self.setting.recording.documents(number)
+        self.versions = {uri: document.number for uri, document in documents.items()}
+
+    def send_until(self, number):
+        steps = self.setting.recording.steps
+        while self.at < len(steps) and not is_after(steps[self.at], number):
+            self.take(steps[self.at])
+            self.at += 1
 
     def take(self, step):
         """Sends a message, or puts a snapshot into the log that is written."""
@@ -119,9 +194,10 @@ class Run:
         """Sends what is sent of a message of the log."""
         if message.sent is None:
             return
-        self.when = f"after {place(message)}"
+        self.number, self.when = message.number, f"after {place(message)}"
         if message.is_request:
-            self.server.ask(message.id, message.sent, message.method == "initialize")
+            content = self.folder.put_into(message.sent)
+            self.server.ask(message.id, content, message.method == "initialize")
             self.sent[message.number] = message
         else:
             self.server.send(message.sent)
@@ -134,16 +210,24 @@ class Run:
         answer = self.server.wait(request.id, self.setting.wait)
         if answer is None:
             self.check()
+            if request.method == "initialize":
+                raise self.timed_out(named(request))
             silent[number] = request
-            if request.method == "initialize" or len(silent) >= MOST_SILENT:
-                raise self.server.failed(self.setting.no_answer(), named(request))
+            if len(silent) >= MOST_SILENT:
+                raise self.timed_out(named(request))
             return
         self.answered[number] = "error" if answer.get("error") else "result"
         if request.method == "initialize":
-            self.greet(answer)
+            self.greet(request, answer)
 
-    def greet(self, answer):
+    def timed_out(self, what):
+        return self.server.failed(TimedOut, self.setting.no_answer(), what)
+
+    def greet(self, request, answer):
         """Notes what the server offers. The columns of the log must mean the same to it."""
+        if "error" in answer:
+            said = f"{self.server.name} answers {named(request)} with"
+            raise Fault(f"{said} {error_of(answer)}")
         self.capabilities = member(answer, "result", "capabilities") or {}
         self.name = member(answer, "result", "serverInfo", "name")
         now, then = encoding_of(answer), self.setting.recording.encoding
@@ -151,17 +235,37 @@ class Run:
             said = f"agrees on {now} columns, and not on {then}, as in the log"
             raise Fault(f"{self.server.name} {said}")
 
+    @property
+    def has_ranges(self):
+        """Whether the server takes changes of a part of a text."""
+        sync = self.capabilities.get("textDocumentSync")
+        return 2 in (sync, member(sync, "change")) or self.setting.recording.has_ranges
+
+    def hear_all(self):
+        """Waits until the server has heard all that it was sent: until it answers a request."""
+        uri = next(iter(self.versions), None)
+        if uri is None or self.capabilities.get("documentSymbolProvider") in (None, False):
+            self.ask(NOTHING, {})
+        else:
+            document = {"uri": self.setting.folders.uri_of(uri)}
+            self.ask("textDocument/documentSymbol", {"textDocument": document})
+
     def ask(self, method, params):
         """Asks a question. The answer is the response."""
-        id = next(self.server.ids)
-        key = key_of(id)
-        self.questions.add(key)
-        self.server.ask(key, messages.request(id, method, params), True)
+        key = key_of(next(self.server.ids))
+        self.server.ask(key, messages.request(int(key), method, params), True)
         answer = self.server.wait(key, self.setting.wait)
         if answer is None:
             self.check()
-            raise self.server.failed(self.setting.no_answer(), f'the question "{method}"')
+            raise self.timed_out(f'the question "{method}"')
         return answer
+
+
+def error_of(answer):
+    """The error of a response as text."""
+    error = answer.get("error")
+    code, said = (error.get(it) if isinstance(error, dict) else None for it in ("code", "message"))
+    return f"error {json.dumps(code)} {json.dumps(said, ensure_ascii=False)}"
 
 
 def is_after(step, number):
@@ -173,16 +277,3 @@ def at_once(*actions):
     """Does several things at the same time: their results, or the first failure."""
     with ThreadPoolExecutor(len(actions)) as pool:
         return [it.result() for it in [pool.submit(action) for action in actions]]
-
-
-@contextmanager
-def three(setting, replayed=None):
-    """A run of the log, and two fresh ones. They end together."""
-    runs = [replayed] if replayed else []
-    try:
-        while len(runs) < 3:
-            runs.append(Run(setting))
-        yield runs
-    finally:
-        mine = runs[1:] if replayed else runs
-        at_once(*(it.__exit__ for it in mine)) if mine else None

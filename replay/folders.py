@@ -1,9 +1,13 @@
 """Replaces folders of the log in the paths and URIs of its messages."""
 
+import itertools
 import json
+import os
+import shutil
 from pathlib import Path
 from urllib.parse import quote, unquote
 
+from children import PROCESSES
 from messages import encoded, member
 
 # Members that hold a document's text, which stays as it is.
@@ -16,12 +20,36 @@ def path_in(uri):
     return unquote(rest) if scheme.lower() == "file" else None
 
 
-class Folders:
-    """The folders to be replaced, each with the one in its place, and an empty one."""
+class Folder:
+    """The empty folder of one server, instead of the one that `initialize` names."""
 
-    def __init__(self, pairs, empty):
-        self.pairs, self.empty = pairs, empty
+    def __init__(self, named, number):
+        self.path = f"{named}{number}"
+        self.named = f"{os.path.basename(os.path.dirname(named))}/{os.path.basename(named)}"
+        self.number = number
+
+    def put_into(self, content):
+        """The content of a message that names this folder, which exists from then on."""
+        changed = content.replace(f'{self.named}"'.encode(), f'{self.named}{self.number}"'.encode())
+        if changed != content:
+            PROCESSES.unless_over(lambda: os.makedirs(self.path, 0o700, exist_ok=True))
+        return changed
+
+    def remove(self):
+        shutil.rmtree(self.path, ignore_errors=True)
+
+
+class Folders:
+    """The folders to be replaced, each with the one in its place, and an empty one, which each
+    server has for itself. They are in the folder `place`, with all that is removed at the end."""
+
+    def __init__(self, pairs, place):
+        self.pairs, self.place, self.empty = pairs, place, os.path.join(place, "empty")
         self.has_found = False
+        self.numbers = itertools.count(1)
+
+    def of_server(self):
+        return Folder(self.empty, next(self.numbers))
 
     def holds(self, path):
         """Whether a path is in a folder that replaces another: the user has named it."""

@@ -2,6 +2,7 @@
 
 import json
 from dataclasses import dataclass
+from urllib.parse import unquote
 
 
 @dataclass
@@ -18,8 +19,11 @@ class Message:
     uri: str = None
     version: int = None
     language: str = None
-    # Whether it sets the whole text of a document, whatever that was.
+    # Whether it sets the whole text of a document, whatever that was, and whether a part of one.
     has_whole_text: bool = False
+    has_range: bool = False
+    # For a request of settings, and the response to it: each item that is asked for.
+    asked_items: tuple = ()
     # For a request: how the log answers it, `result` or `error`, or None if it doesn't.
     answer: str = None
     # For a message of the editor: the requests that are answered between the one before and this.
@@ -64,11 +68,20 @@ def key_of(id):
     return json.dumps(id)
 
 
-def sets_whole_text(method, params):
+def sets(method, params):
+    """Whether a message sets the whole text of a document, and whether it sets a part of one."""
     changes = member(params, "contentChanges")
-    if method == "textDocument/didChange" and isinstance(changes, list):
-        return any(isinstance(it, dict) and it.get("range") is None for it in changes)
-    return method == "textDocument/didOpen"
+    if method != "textDocument/didChange" or not isinstance(changes, list):
+        return method == "textDocument/didOpen", False
+    ranges = [it.get("range") is not None for it in changes if isinstance(it, dict)]
+    return not all(ranges), any(ranges)
+
+
+def items_of(params):
+    """What a request of settings asks for: the scope and the section of each."""
+    items = member(params, "items")
+    found = items if isinstance(items, list) else []
+    return tuple((member(it, "scopeUri"), member(it, "section")) for it in found)
 
 
 def message_of(event, number, content):
@@ -86,7 +99,8 @@ def message_of(event, number, content):
         uri if isinstance(uri, str) else None,
         member(document, "version"),
         member(document, "languageId"),
-        sets_whole_text(method, value.get("params")),
+        *sets(method, value.get("params")),
+        items_of(value.get("params")) if method == "workspace/configuration" else (),
     )
 
 
@@ -109,6 +123,24 @@ def notification(method, params=None):
 def response(id, name, value):
     """A response whose member `result` or `error` has this value."""
     return encoded({"jsonrpc": "2.0", "id": id, name: value})
+
+
+def same_name(uri):
+    """A URI as it is compared with others: servers escape in their own way."""
+    return unquote(uri) if isinstance(uri, str) else None
+
+
+def changed(uri, version, changes):
+    """A `didChange` of a document."""
+    document = {"uri": uri, "version": version}
+    return notification(
+        "textDocument/didChange", {"textDocument": document, "contentChanges": changes}
+    )
+
+
+def saved(uri):
+    """A `didSave` of a document."""
+    return notification("textDocument/didSave", {"textDocument": {"uri": uri}})
 
 
 def opened(uri, language, version, text):

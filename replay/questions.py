@@ -1,12 +1,13 @@
-"""What servers are asked about a document, and when two answers count as different."""
+"""What servers are asked about a document, and what of an answer is compared."""
 
 import json
 import re
-import time
-from dataclasses import dataclass, field
+from contextlib import suppress
+from dataclasses import dataclass
 
-from drive import at_once
 from messages import member
+from overwriting import lines_of, units
+from servers import PUBLISHED, TimedOut
 
 # What the text alone answers, with the capability that offers it.
 OFFERED_BY = {
@@ -19,57 +20,79 @@ OFFERED_BY = {
 }
 # rust-analyzer gives the text itself, and names no capability for it.
 VIEW, VIEWER = "rust-analyzer/viewFileText", "rust-analyzer"
+SYMBOLS, PULLED = "textDocument/documentSymbol", "textDocument/diagnostic"
+# What is asked once the lines are overwritten; and diagnostics, which come late, only where time
+# does not matter.
+OF_NAMES = (VIEW, SYMBOLS, "textDocument/foldingRange", "textDocument/formatting")
+DIAGNOSTICS = (PULLED, PUBLISHED)
 # Members of answers that say nothing of the text.
 SAYS_NOTHING = ("resultId", "data")
+# The folder that one server has for itself.
+OWN_FOLDER = re.compile(r"(lspcheck-replay-\w+/empty)\d+")
+# The codes of errors that pass: cancelled by the editor or the server, and content modified.
+PASSING = (-32800, -32801, -32802)
 # How many positions a selection range is asked for.
 POSITIONS = 16
-LINE_END = re.compile("\r\n|\n|\r")
 FORMATTING = {"tabSize": 4, "insertSpaces": True}
 
-# When a difference is asked for again, in seconds. A search asks again once, since what it finds is
-# asked for at length.
+# When a difference is asked for again, in seconds after the first answer. A search asks again once,
+# since what it finds is asked for at length.
 PAUSES = (1, 2, 4, 8)
 SHORT_PAUSES = (1,)
+# How many seconds diagnostics are waited for once the server has heard all, and how many if it has
+# sent some about this document before.
+PUBLISHING, PUBLISHING_AGAIN = 1, 5
 
 SAME, DIFFERS, NOTHING = "same", "differs", "nothing"
 
 
-def offered(run):
-    """What a server offers of the questions."""
-    found = [VIEW] if run.name == VIEWER else []
-    for method, capability in OFFERED_BY.items():
-        if run.capabilities.get(capability) not in (None, False) or method in run.server.registered:
-            found.append(method)
-    return found
+@dataclass(frozen=True)
+class Key:
+    """A question about a document, as its lines are or once they are overwritten."""
+
+    uri: str
+    method: str
+    is_overwritten: bool = False
 
 
-def units(text, encoding):
-    """The length of a text in the units of columns."""
-    if encoding == "utf-8":
-        return len(text.encode("utf-8", "replace"))
-    return len(text) if encoding == "utf-32" else len(text.encode("utf-16-le", "replace")) // 2
+def offered(run, method):
+    """Whether a server offers a question."""
+    if method == VIEW:
+        return run.name == VIEWER
+    if method == PUBLISHED:
+        return True
+    capability = OFFERED_BY.get(method, "diagnosticProvider")
+    is_in_answer = run.capabilities.get(capability) not in (None, False)
+    return is_in_answer or method in run.server.registered
+
+
+def keys_of(run, uri, has_diagnostics):
+    """The questions about a document that a server offers."""
+    plain = [Key(uri, it) for it in (VIEW, *OFFERED_BY)]
+    methods = (*OF_NAMES, *(DIAGNOSTICS if has_diagnostics else ()))
+    found = plain + [Key(uri, it, True) for it in methods if run.has_ranges]
+    return [it for it in found if offered(run, it.method)]
 
 
 def positions(text, encoding):
     """Positions all over a text: the ends of lines."""
-    lines = LINE_END.split(text)
+    lines = lines_of(text)
     step = max(len(lines) // POSITIONS, 1)
     return [
-        {"line": number, "character": units(lines[number], encoding)}
+        {"line": number, "character": units(lines[number][0], encoding)}
         for number in range(0, len(lines), step)
     ]
 
 
-def params_of(method, uri, text, run):
+def params_of(method, uri, text, encoding):
     """The params of a question about a document with this text."""
-    uri = run.setting.folders.uri_of(uri)
     if method == VIEW:
         return {"uri": uri}
     params = {"textDocument": {"uri": uri}}
     if method == "textDocument/formatting":
         params["options"] = FORMATTING
     elif method == "textDocument/selectionRange":
-        params["positions"] = positions(text, run.setting.recording.encoding or "utf-16")
+        params["positions"] = positions(text, encoding)
     return params
 
 
@@ -89,55 +112,43 @@ def compared(answer):
         return None
     result = bare(answer["result"])
     items = result if isinstance(result, list) else [result]
-    return sorted(json.dumps(item, sort_keys=True) for item in items), isinstance(result, list)
+    texts = (json.dumps(item, sort_keys=True) for item in items)
+    return sorted(OWN_FOLDER.sub(r"\1", it) for it in texts), isinstance(result, list)
 
 
-@dataclass
-class Question:
-    """A question about a document, with the answers that it got."""
-
-    uri: str
-    method: str
-    params: dict
-    # The answers of each round: of the server that was sent the log, and of the two fresh ones.
-    rounds: list = field(default_factory=list)
-    verdict: str = None
-
-    def hear(self, answers):
-        """Takes the three answers to the question, when it is asked once more."""
-        self.rounds.append(answers)
-        replayed, fresh, control = map(compared, answers)
-        if fresh is None or fresh != control:
-            self.verdict = NOTHING
-        elif replayed == fresh:
-            self.verdict = SAME
-
-    def settle(self):
-        """Decides what was different each time. If the answers change without end, that says
-        nothing."""
-        if self.verdict is None:
-            before, last = ([compared(it) for it in answers] for answers in self.rounds[-2:])
-            self.verdict = DIFFERS if before == last else NOTHING
+def passes(answer):
+    """Whether an answer is an error that says no more than that the server could not answer just
+    then."""
+    return member(answer, "error", "code") in PASSING
 
 
-def compare(runs, documents, pauses):
-    """Asks three runs the same about documents, given with their texts: the questions, settled."""
-    asked = [
-        Question(document.uri, method, params_of(method, document.uri, text, runs[1]))
-        for document, text in documents
-        for method in offered(runs[1])
-    ]
-    last = 0
-    for pause in (0, *pauses):
-        left = [it for it in asked if it.verdict is None]
-        if not left:
-            break
-        # Counted from the answers, so that a slow server gets the time, too.
-        time.sleep(pause - last)
-        last = pause
-        asking = [lambda run=run: [run.ask(it.method, it.params) for it in left] for run in runs]
-        for question, *answers in zip(left, *at_once(*asking)):
-            question.hear(answers)
-    for question in asked:
-        question.settle()
-    return asked
+def strings_of(value):
+    """Each string in a value."""
+    if isinstance(value, str):
+        yield value
+    elif isinstance(value, (list, dict)):
+        for item in value.values() if isinstance(value, dict) else value:
+            yield from strings_of(item)
+
+
+def names_of(value):
+    """The names of the symbols in a value."""
+    if isinstance(value, list):
+        for item in value:
+            yield from names_of(item)
+    elif isinstance(value, dict):
+        if isinstance(value.get("name"), str):
+            yield value["name"]
+        for item in value.values():
+            yield from names_of(item)
+
+
+def published_of(run, uri, version):
+    """The diagnostics of a document, if they can be those of this version. Time is counted from
+    when the server has heard all, however busy it is."""
+    with suppress(TimedOut):
+        run.hear_all()
+    named = run.setting.folders.uri_of(uri)
+    params = run.server.published_of(named, version, PUBLISHING, PUBLISHING_AGAIN)
+    found = member(params, "diagnostics")
+    return {"error": None} if found is None else {"result": found}

@@ -1,5 +1,6 @@
 """Reads a log for its replay: the editor's messages, and how they were answered."""
 
+import itertools
 import re
 from collections import defaultdict
 from dataclasses import dataclass, field
@@ -22,6 +23,11 @@ class Document:
     uri: str
     language: str
     version: int
+
+    @property
+    def number(self):
+        """Its version, as a server can be told it."""
+        return self.version if isinstance(self.version, int) else 0
 
 
 def is_message(step, number):
@@ -46,6 +52,8 @@ class Recording:
     free_id: int = 1
     # For each method, the editor's answers that are sent, in order: whether result or error, value.
     replies: dict = field(default_factory=lambda: defaultdict(list))
+    # The settings in these answers: each item that was asked for, and its value.
+    configuration: list = field(default_factory=list)
 
     def add(self, step):
         self.steps.append(step)
@@ -77,6 +85,32 @@ class Recording:
             elif message.method == "textDocument/didClose":
                 found.pop(message.uri, None)
         return found
+
+    def end_before(self, number):
+        """Leaves out a message and what follows it."""
+        self.steps = self.steps[: next(
+            it for it, step in enumerate(self.steps) if is_message(step, number)
+        )]
+        self.messages = self.messages[: number - 1]
+
+    @property
+    def has_ranges(self):
+        """Whether the editor changes a part of a text somewhere."""
+        return any(it.has_range for it in self.messages)
+
+    def is_saved(self, uri, number):
+        """Whether the editor saved a document before it sent a message."""
+        saves = (it for it in self.messages[:number] if it.method == "textDocument/didSave")
+        return any(it.uri == uri and it.sent is not None for it in saves)
+
+    def touched(self, uri, number):
+        """The lines of a document that the changes up to a message name, the last ones first."""
+        for message in reversed(self.messages[:number]):
+            if message.uri == uri and message.method == "textDocument/didChange":
+                changes = member(value_of(message.content), "params", "contentChanges") or []
+                ends = itertools.product(changes, ("start", "end"))
+                lines = (member(change, "range", end, "line") for change, end in ends)
+                yield from (it for it in lines if isinstance(it, int))
 
     def last(self):
         """The number of the message after which the documents are asked about: the last one or, if
@@ -153,7 +187,7 @@ class Reader:
             return
         asked.answer = "error" if response.is_error else "result"
         if kind == EDITOR:
-            response.asked = asked.method
+            response.asked, response.asked_items = asked.method, asked.asked_items
             return
         self.answered.append(asked)
         if asked.method == "initialize":

@@ -2,7 +2,7 @@
 
 from collections import deque
 
-from messages import member
+from messages import items_of, key_of
 from shapes import DONE
 
 METHOD_NOT_FOUND = {"code": -32601, "message": "Method not found"}
@@ -10,11 +10,8 @@ METHOD_NOT_FOUND = {"code": -32601, "message": "Method not found"}
 NULLS = {*DONE.split(), "window/showMessageRequest", "workspace/workspaceFolders"}
 
 
-def without_log(method, params):
+def without_log(method):
     """The answer to a request that the log does not have."""
-    if method == "workspace/configuration":
-        items = member(params, "items")
-        return "result", [None] * (len(items) if isinstance(items, list) else 0)
     if method == "workspace/applyEdit":
         return "result", {"applied": False}
     if method == "window/showDocument":
@@ -22,13 +19,33 @@ def without_log(method, params):
     return ("result", None) if method in NULLS else ("error", METHOD_NOT_FOUND)
 
 
+class Settings:
+    """The editor's settings in the log, by scope and section. Where a server asks more often, the
+    last answer stays; and where it asks for another scope, that of any scope is as good."""
+
+    def __init__(self, recorded):
+        self.left, self.of_section = {}, {}
+        for (scope, section), value in recorded:
+            self.left.setdefault((key_of(scope), key_of(section)), deque()).append(value)
+            self.of_section.setdefault(key_of(section), value)
+
+    def value(self, scope, section):
+        left = self.left.get((key_of(scope), key_of(section)))
+        if left is None:
+            return self.of_section.get(key_of(section))
+        return left.popleft() if len(left) > 1 else left[0]
+
+
 class Replies:
     """The editor's answers for one server: those of the log to each method, in order."""
 
-    def __init__(self, recorded):
+    def __init__(self, recorded, configuration):
         self.left = {method: deque(answers) for method, answers in recorded.items()}
+        self.settings = Settings(configuration)
 
     def answer(self, method, params):
         """The name and the value of the member that an answer has."""
+        if method == "workspace/configuration":
+            return "result", [self.settings.value(*it) for it in items_of(params)]
         left = self.left.get(method)
-        return left.popleft() if left else without_log(method, params)
+        return left.popleft() if left else without_log(method)

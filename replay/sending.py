@@ -16,7 +16,7 @@ HEAD = {"jsonrpc": shapes.text, "id": shapes.identifier, "method": shapes.text}
 # What is replaced, and no setting: the process of the editor, and the empty folder of an earlier
 # replay, which wrote this log.
 PROCESS = ("params", "processId")
-EMPTY = re.compile(r'"(file://)?/.*/lspcheck-replay-\w+/empty"')
+EMPTY = re.compile(r'"(file://)?/.*/lspcheck-replay-\w+/empty\d*"')
 
 
 def choose(recording, folders, is_whole):
@@ -30,9 +30,17 @@ def choose(recording, folders, is_whole):
     left_out = [] if is_whole else list(choice.left_out(recording.messages))
     for message in recording.messages:
         if message.is_response and message.sent is not None:
-            name = "error" if message.is_error else "result"
-            recording.replies[message.asked].append((name, value_of(message.sent).get(name)))
+            add_reply(recording, message)
     return left_out
+
+
+def add_reply(recording, message):
+    """Keeps an answer of the editor for when a server asks the same."""
+    name = "error" if message.is_error else "result"
+    value = value_of(message.sent).get(name)
+    recording.replies[message.asked].append((name, value))
+    if message.asked == "workspace/configuration" and isinstance(value, list):
+        recording.configuration += zip(message.asked_items, value)
 
 
 def with_own_process(message, content):

@@ -1,87 +1,34 @@
 """Language servers as child processes: what they are sent, what they answer, and how they end.
 
-Each leads a process group of its own, so that whatever it starts ends with it. Nothing waits for a
-server without a limit: threads of their own write to it and read from it.
+Nothing waits for a server without a limit: threads of their own write to it and read from it.
 """
 
 import contextlib
 import itertools
 import os
+import select
 import signal
-import subprocess
 import threading
 import time
 
-from messages import key_of, notification, request, response, value_of
-from program import Failed
-from proxy_log import Feed
+from children import PROCESSES, Fault, has_ended, how_ended, memory_of
+from messages import key_of, notification, request, response, same_name, value_of
+from proxy_log import Feed, is_readable
 from session_log import EDITOR, FIRST_LINE, SERVER, Damaged, Frames, as_records, framed
 
 # How many seconds a server may take to answer `shutdown`, to end after `exit`, and after a signal.
-LAST_ANSWER, AFTER_EXIT, AFTER_SIGNAL = 2, 2, 1
-# How much of its standard error is kept, and how many lines are shown.
-MOST_SAID, LINES_SAID = 4096, 5
+LAST_ANSWER, AFTER_EXIT, AFTER_SIGNAL = 5, 5, 1
+# How much of its standard error is kept, in bytes, and how many lines are shown at its end.
+MOST_SAID, LINES_SAID = 1 << 16, 5
+PUBLISHED = "textDocument/publishDiagnostics"
 
 
-class Fault(Failed):
-    """Why a server gives no answers: nothing can be said."""
-
-    def __init__(self, message):
-        super().__init__(message, 2)
+class Ended(Fault):
+    """The server ended, before it was asked to."""
 
 
-class Processes:
-    """The processes that run. Once all are killed, no other is started."""
-
-    def __init__(self):
-        self.lock, self.running, self.is_over = threading.Lock(), set(), False
-
-    def start(self, command):
-        pipes = dict.fromkeys(("stdin", "stdout", "stderr"), subprocess.PIPE)
-        with self.lock:
-            if self.is_over:
-                raise Fault("stopped")
-            try:
-                process = subprocess.Popen(command, start_new_session=True, bufsize=0, **pipes)
-            except OSError as error:
-                raise Fault(f"{command[0]}: {error.strerror}") from error
-            self.running.add(process)
-            return process
-
-    def signal(self, process, number):
-        """Sends a signal to the group of a process that has not been waited for."""
-        with contextlib.suppress(ProcessLookupError, PermissionError):
-            os.killpg(process.pid, number)
-
-    def kill(self, process):
-        """Kills what is left of the group of a process."""
-        with self.lock:
-            if process in self.running:
-                self.signal(process, signal.SIGKILL)
-                self.running.remove(process)
-        process.wait()
-
-    def kill_all(self):
-        with self.lock:
-            self.is_over = True
-            for process in self.running:
-                self.signal(process, signal.SIGKILL)
-            self.running.clear()
-
-
-PROCESSES = Processes()
-
-
-def has_ended(process, seconds):
-    """Whether a process ends within some seconds. It is not waited for, so that its group's number
-    stays its own."""
-    end = time.monotonic() + seconds
-    how = os.WEXITED | os.WNOHANG | os.WNOWAIT
-    while os.waitid(os.P_PID, process.pid, how) is None:
-        if time.monotonic() > end:
-            return False
-        time.sleep(0.005)
-    return True
+class TimedOut(Fault):
+    """The server did not answer in time."""
 
 
 class Server:
@@ -96,8 +43,14 @@ class Server:
         # The responses by id. Of those that nobody reads, it is kept whether they are errors.
         self.answers, self.whole = {}, set()
         self.received, self.is_over, self.fault = 0, False, None
+        # Whether it ended before it was asked to.
+        self.is_lost = False
         self.registered = set()
-        self.said = b""
+        # The last diagnostics of each document, by its URI, and the documents that ever had some.
+        self.published, self.publishes = {}, set()
+        # The end of its standard error, and how many bytes it had in all. Who has the lock knows
+        # that nothing is read that is not yet here.
+        self.said, self.said_size, self.reading = b"", 0, threading.Lock()
         self.process = PROCESSES.start(command)
         self.feed = Feed(os.dup(self.process.stdin.fileno()), None)
         self.process.stdin.close()
@@ -133,9 +86,54 @@ class Server:
             self.condition.notify_all()
 
     def hear_errors(self):
+        """Reads standard error, until there is no more."""
+        poll = select.poll()
+        poll.register(self.process.stderr.fileno(), select.POLLIN)
         with contextlib.suppress(OSError, ValueError):
-            while data := os.read(self.process.stderr.fileno(), 1 << 16):
-                self.said = (self.said + data)[-MOST_SAID:]
+            while poll.poll():
+                with self.reading:
+                    data = os.read(self.process.stderr.fileno(), 1 << 16)
+                    self.said = (self.said + data)[-MOST_SAID:]
+                    self.said_size += len(data)
+                if not data:
+                    return
+
+    def catch_up(self):
+        """Waits until all is read that the server has written to standard error by now, unless it
+        writes on and on."""
+        end, errors = time.monotonic() + AFTER_SIGNAL, self.threads[1]
+        while errors.is_alive() and time.monotonic() < end:
+            with self.reading:
+                if not is_readable(self.process.stderr.fileno()):
+                    return
+            errors.join(0.005)
+
+    def said_since(self, size):
+        """What standard error got after its first bytes, as far as it is kept."""
+        new = self.said_size - size
+        return self.said[-new:] if new > 0 else b""
+
+    def forget_published(self, uri):
+        with self.condition:
+            self.published.pop(same_name(uri), None)
+
+    def published_of(self, uri, version, seconds, more):
+        """The params of the last diagnostics of a document, if they are not older than this version
+        as far as they say; None if there are none in this time or, if it has had some, in a longer
+        one."""
+        def found():
+            params = self.published.get(same_name(uri))
+            said = params.get("version") if params else None
+            return None if isinstance(said, int) and said < version else params
+
+        is_known = same_name(uri) in self.publishes
+        with self.condition:
+            is_done = lambda: found() or self.is_over  # noqa: E731
+            self.condition.wait_for(is_done, more if is_known else seconds)
+            return found()
+
+    def memory(self):
+        return memory_of(self.process)
 
     def take(self, message):
         """Takes a message of the server."""
@@ -147,6 +145,11 @@ class Server:
                 is_error = "error" in message
                 self.answers[key] = message if key in self.whole else {"error": is_error}
                 self.condition.notify_all()
+            if method == PUBLISHED and isinstance(message.get("params"), dict):
+                params = message["params"]
+                self.published[same_name(params.get("uri"))] = params
+                self.publishes.add(same_name(params.get("uri")))
+                self.condition.notify_all()
         if method is not None and "id" in message:
             self.register(method, message.get("params"))
             name, value = self.replies.answer(method, message.get("params"))
@@ -155,7 +158,8 @@ class Server:
     def register(self, method, params):
         """Notes what the server offers later than in its answer to `initialize`."""
         if method == "client/registerCapability" and isinstance(params, dict):
-            for item in params.get("registrations") or []:
+            items = params.get("registrations")
+            for item in items if isinstance(items, list) else ():
                 if isinstance(item, dict):
                     self.registered.add(item.get("method"))
 
@@ -179,18 +183,30 @@ class Server:
         with self.condition:
             if not self.is_over:
                 return
-        raise self.failed(self.fault or how_ended(self.process), when)
+        raise self.failed(Fault if self.fault else Ended, self.how_ended(), when)
 
-    def failed(self, what, when):
+    def has_ended(self, seconds):
+        """Whether the server ends within some seconds."""
+        with self.condition:
+            return self.condition.wait_for(lambda: self.is_over, seconds)
+
+    def how_ended(self):
+        return self.fault or how_ended(self.process)
+
+    def failed(self, kind, what, when):
         """A fault, with the last words of the server."""
         said = f"{self.name} {what} {when}"
         words = self.last_words()
-        return Fault(said + (f"; its standard error ends:\n{words}" if words else ""))
+        return kind(said + (f"; its standard error ends:\n{words}" if words else ""))
+
+    def last_lines(self, count):
+        """The last lines of standard error."""
+        self.catch_up()
+        return self.said.decode("utf-8", "replace").splitlines()[-count:]
 
     def last_words(self):
-        """The last lines of standard error, without what a terminal would obey."""
-        self.threads[1].join(0.2)
-        lines = self.said.decode("utf-8", "replace").splitlines()[-LINES_SAID:]
+        """The same, without what a terminal would obey."""
+        lines = self.last_lines(LINES_SAID)
         shown = ["".join(it if it.isprintable() else " " for it in line) for line in lines]
         return "\n".join(f"  {line}" for line in shown)
 
@@ -199,6 +215,8 @@ class Server:
         try:
             if not self.is_over:
                 self.say_goodbye(dict(messages))
+            else:
+                self.is_lost = True
             if not has_ended(self.process, AFTER_EXIT if not self.is_over else 0.2):
                 PROCESSES.signal(self.process, signal.SIGTERM)
                 has_ended(self.process, AFTER_SIGNAL)
@@ -215,19 +233,9 @@ class Server:
         content = messages.get("shutdown") or request(next(self.ids), "shutdown")
         id = key_of(value_of(content).get("id"))
         self.ask(id, content, False)
-        self.wait(id, LAST_ANSWER)
+        self.is_lost = self.wait(id, LAST_ANSWER) is None and self.is_over
         self.send(messages.get("exit") or notification("exit"))
         self.feed.end()
-
-
-def how_ended(process):
-    """How a process has ended, in words."""
-    if not has_ended(process, 1):
-        return "closed its output"
-    ended = os.waitid(os.P_PID, process.pid, os.WEXITED | os.WNOHANG | os.WNOWAIT)
-    if ended.si_code == os.CLD_EXITED:
-        return f"ended with status {ended.si_status}"
-    return f"was ended by signal {ended.si_status}"
 
 
 class Tape:

@@ -4,15 +4,27 @@ import contextlib
 import os
 import tempfile
 
-import report
+import children
+from comparison import Comparison
+from crashes import CrashSearch
 from drive import Run, Setting
+from overwriting import lines_of
+from points import Asked, has_answers
 from program import Failed
-from questions import NOTHING, PAUSES, compared
+from questions import DIAGNOSTICS, NOTHING, SYMBOLS, compared, names_of
 from recording import read
+from report import shown
 from script import quoted, write
-from search import Search, SmallCase, asked_after, differing, verdict_of
+from search import Search
 from sending import choose
-from servers import Tape
+from servers import Ended, Tape
+from small_case import log_of, verdict_of
+from witness import notes_on, said_after, sentences_on
+
+# Where one server holds more, in bytes, servers run one after the other.
+MUCH_MEMORY = 500 * 1_000_000
+# How many servers run at a time, if there are as many processors.
+MOST_JOBS = 4
 
 # Files that are not finished yet.
 unfinished = set()
@@ -25,12 +37,11 @@ def forget():
             os.unlink(name)
 
 
-def run(program, log, command, given, folders):
+def run(program, log, command, given, folders, report):
     """Does the trial, and writes its lines. The status of the script."""
     recording = read(program)
     log.check_unchanged()
-    for line in recording.report:
-        report.line(line)
+    report.say_judged(program)
     if not any(it.method == "initialize" for it in recording.messages):
         raise Failed(f"{log.shown}: there is nothing to replay", 2)
     left_out = choose(recording, folders, given.with_settings)
@@ -38,15 +49,26 @@ def run(program, log, command, given, folders):
         report.say_left_out(message, members)
     if folders.pairs and not folders.has_found:
         raise Failed(f"--map: {folders.pairs[0][0]} is in no message of the log", 2)
-    setting = Setting(program, recording, command, given.wait, folders)
-    asked = Asked(setting, given.every)
+    jobs = given.jobs or min(MOST_JOBS, len(os.sched_getaffinity(0)))
+    setting = Setting(program, recording, command, given.wait, folders, jobs)
     try:
-        with written(given.write) as tape:
-            asked.replay(tape)
-        return conclude(setting, asked, given.small)
+        return Trial(setting, given, report).status()
     finally:
         if left_out:
             report.say_without(len(left_out))
+
+
+def begin_file(folder, name):
+    """A file that has no name of its own yet."""
+    file = tempfile.NamedTemporaryFile(dir=folder, prefix=f".{name}-", delete=False)
+    unfinished.add(file.name)
+    return file
+
+
+def end_file(file, path, is_good):
+    """Gives a file its name, or removes it."""
+    os.replace(file.name, path) if is_good else os.unlink(file.name)
+    unfinished.discard(file.name)
 
 
 @contextlib.contextmanager
@@ -57,110 +79,153 @@ def written(path):
         return
     folder, name = os.path.split(os.path.abspath(path))
     try:
-        with tempfile.NamedTemporaryFile(dir=folder, prefix=f".{name}-", delete=False) as file:
-            unfinished.add(file.name)
+        with children.PROCESSES.unless_over(lambda: begin_file(folder, name)) as file:
             tape = Tape(file)
             try:
                 yield tape
             finally:
                 file.close()
-                os.replace(file.name, path) if tape.error is None else os.unlink(file.name)
-                unfinished.discard(file.name)
+                children.PROCESSES.unless_over(lambda: end_file(file, path, tape.error is None))
             if tape.error:
                 raise tape.error
     except OSError as error:
         raise Failed(f"{quoted(path)}: {error.strerror}", 3) from error
 
 
-class Asked:
-    """The replay of the whole log, and what the server was asked in it."""
+class Trial:
+    """What is done with one log, after it was read."""
 
-    def __init__(self, setting, every):
-        self.setting, self.every = setting, every
-        self.last = setting.recording.last()
-        # For each document, as it was when it was last asked about, the questions; and the messages
-        # after which it last agreed, and first differed.
-        self.documents, self.questions, self.agreed, self.differs = {}, {}, {}, {}
+    def __init__(self, setting, given, report):
+        self.setting, self.given, self.report = setting, given, report
+        self.comparison, self.crash = Comparison(setting), None
 
-    def points(self):
-        """The messages after which documents are asked about, each with their URIs."""
-        recording, changes, found = self.setting.recording, {}, []
-        for message in recording.messages if self.every else []:
-            if message.method == "textDocument/didChange" and message.number < self.last:
-                changes[message.uri] = changes.get(message.uri, 0) + 1
-                if changes[message.uri] % self.every == 0:
-                    found.append((message.number, [message.uri]))
-        return [*found, (self.last, list(recording.documents(self.last)))]
+    def status(self):
+        with written(self.given.write) as tape:
+            self.replay(tape)
+        asked = Asked(self.comparison, self.given.every)
+        asked.ask()
+        found = self.conclude(asked)
+        named = [it for it in found if it.questions and not it.why]
+        if named and not self.crash:
+            first = min(named, key=lambda it: it.message.number)
+            self.write_small(first.message.number, first.count, [first.uri])
+        return 1 if found or asked.faults_of_log() or self.crash else self.agreed(asked)
 
     def replay(self, tape):
-        recording = self.setting.recording
-        with Run(self.setting, tape) as run:
-            for number, uris in self.points():
-                # A difference that stayed is not asked for again before the end.
-                if number == self.last or uris[0] not in self.differs:
-                    self.ask(run, number, uris)
-            run.advance(len(recording.messages))
-        report.say_replayed(recording, run.server.received - len(run.questions))
-        report.say_answers(recording, run.answered, self.setting.silent)
+        """Sends the whole log once. If that ends the server, what precedes is asked about."""
+        try:
+            with Run(self.setting, tape) as run:
+                run.advance(len(self.setting.recording.messages))
+                if self.given.jobs is None and run.server.memory() > MUCH_MEMORY:
+                    self.setting.slots.most = 1
+            if run.server.is_lost and self.find_crash(run):
+                return
+            self.report.say_replayed(self.setting.recording, run.server.received)
+            self.report.say_answers(self.setting.recording, run.answered, self.setting.silent)
+        except Ended:
+            if not self.find_crash(run):
+                raise
 
-    def ask(self, run, number, uris):
-        asked = asked_after(self.setting, number, uris, PAUSES, run)
-        documents = self.setting.recording.documents(number)
-        for uri in uris:
-            mine = [it for it in asked if it.uri == uri]
-            self.documents[uri], self.questions[uri] = documents[uri], mine
-            if differing(mine):
-                self.differs.setdefault(uri, number)
-            elif uri not in self.differs and any(it.verdict != NOTHING for it in mine):
-                self.agreed[uri] = number
+    def find_crash(self, run):
+        """Finds the message that ended a server, if it ends the next one, too. What precedes it is
+        asked about."""
+        self.crash = crash = CrashSearch(self.setting).find(max(run.number, 1))
+        if crash is None:
+            return False
+        recording, number = self.setting.recording, crash.message.number
+        self.report.say_replayed(recording, run.server.received, number)
+        self.report.say_crash(crash)
+        self.say_more(crash.message, crash.count, crash.words)
+        self.write_small(number, crash.count, [], True)
+        recording.end_before(number)
+        return True
+
+    def say_more(self, message, count, lines):
+        """Which messages show what was found, and what others say about the last of them."""
+        if count:
+            first = self.setting.recording.message(message.number - count + 1)
+            self.report.say_needed(first, message)
+        notes = notes_on(self.setting.program, message)
+        self.report.say_witness(notes, sentences_on(notes), lines)
+
+    def conclude(self, asked):
+        """Says what was found about each document."""
+        found = []
+        for uri, document in asked.documents.items():
+            self.report.say_document(document, asked.questions[uri])
+            if uri in asked.faults:
+                self.report.say_fault(asked.faults[uri])
+            if uri in asked.differs:
+                found.append(self.search(asked, uri))
+        for message, why in asked.unknown:
+            self.report.say_unknown(message, why)
+        return found
+
+    def search(self, asked, uri):
+        """Searches for the message, and says what is found."""
+        differs, questions = asked.differs[uri]
+        search = Search(self.comparison, uri)
+        found = search.find(asked.agreed.get(uri, 0), differs, questions)
+        self.report.say_found(found)
+        if found.questions:
+            with contextlib.suppress(children.Fault):
+                self.say_missing(found)
+                lines = said_after(self.setting, found.message.number)
+                self.say_more(found.message, found.count, lines)
+            self.report.say_questions(found.questions)
+        return found
+
+    def say_missing(self, found):
+        """The first line that the symbols do not show, where they show the lines."""
+        for it in found.questions:
+            if it.key.is_overwritten and it.key.method == SYMBOLS and "result" in it.replayed:
+                told, = self.comparison.told(found.message.number, [found.uri])
+                line = told.overwriting.first_wrong(names_of(it.replayed["result"]))
+                if line is not None:
+                    self.report.say_missing(line, lines_of(told.text)[line][0])
+
+    def agreed(self, asked):
+        """Says that there is no difference, if each document was asked about."""
+        questions = {uri: [it for it in mine if it.verdict != NOTHING]
+                     for uri, mine in asked.questions.items()}
+        if asked.unknown:
+            raise asked.unknown[0][1]
+        if not questions or not all(questions.values()):
+            raise Failed(why_nothing(asked, bool(self.setting.folders.pairs)), 2)
+        self.report.say_agreed(sum(map(len, questions.values())), len(questions))
+        return 0
+
+    def write_small(self, last, count, uris, ends=False):
+        """Writes the small case, if lspcheck finds nothing wrong with it: this many messages up to
+        the last one."""
+        if not self.given.small:
+            return
+        if count is None:
+            self.report.say_no_small("repeated runs disagree")
+            return
+        log, messages = log_of(self.setting, last - count, last, uris, ends)
+        verdict = verdict_of(self.setting, log)
+        if verdict != "yes":
+            self.report.say_no_small(f"lspcheck says {verdict}")
+            return
+        children.PROCESSES.unless_over(lambda: write(self.given.small, log))
+        self.report.say_small(self.given.small, messages)
 
 
-def conclude(setting, asked, small):
-    """Says what was found about each document. The status of the script."""
-    found = []
-    for uri, document in asked.documents.items():
-        report.say_document(document, asked.questions[uri])
-        if uri in asked.differs:
-            search = Search(setting, uri)
-            found.append(search.find(asked.agreed.get(uri, 0), asked.differs[uri]))
-            report.say_found(found[-1])
-    counted = [it for mine in asked.questions.values() for it in mine if it.verdict != NOTHING]
-    if not found and not counted:
-        raise Failed(why_nothing(asked), 2)
-    if not found:
-        report.say_agreed(len(counted), len(asked.documents))
-    named = [it for it in found if it.questions]
-    if small and named:
-        write_small(setting, min(named, key=lambda it: it.message.number), small)
-    return 1 if found else 0
-
-
-def why_nothing(asked):
-    """Why nothing can be said, although the server answers."""
+def why_nothing(asked, has_folders):
+    """Why nothing can be said, although the server answers, perhaps without a project's folders."""
     if not asked.documents:
         return "the log opens no document, so there is nothing to ask about"
-    questions = [it for mine in asked.questions.values() for it in mine]
-    if not questions:
-        return "the server offers none of the questions that the text alone answers"
-    for question in questions:
-        answer = question.rounds[-1][1]
-        if compared(answer) is None:
-            said = report.shown(answer)
-            return f"no answer counts: a fresh server fails at {question.method}: {said}"
-    return "no answer counts: fresh servers answer otherwise each time"
-
-
-def write_small(setting, found, path):
-    """Writes the small case, if lspcheck finds nothing wrong with it."""
-    case = SmallCase(setting, found)
-    count = case.count()
-    if count is None:
-        report.line("small none: repeated runs disagree")
-        return
-    log, messages = case.log(count)
-    verdict = verdict_of(setting.program, log)
-    if verdict != "yes":
-        report.line(f"small none: lspcheck says {verdict}")
-        return
-    write(path, log)
-    report.line("small", quoted(path), messages, "messages")
+    for uri, questions in asked.questions.items():
+        if has_answers(questions):
+            continue
+        questions = [it for it in questions if it.key.method not in DIAGNOSTICS]
+        if not questions:
+            return "the server offers none of the questions that the text alone answers"
+        for it in questions:
+            if compared(it.fresh) is None:
+                hint = "" if has_folders else "; if it needs the files of a project, see --map"
+                what = f"a fresh server fails at {it.key.method}: {shown(it.fresh)}"
+                return f"no answer counts: {what}{hint}"
+        return "no answer counts: fresh servers answer otherwise each time"
+    return None

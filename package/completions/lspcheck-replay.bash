@@ -2,14 +2,15 @@
 # as /usr/share/bash-completion/completions/lspcheck-replay.
 
 _lspcheck_replay() {
-    local options="--every --map --program --small --wait --with-settings --write --version --help -h"
+    local options="--every --jobs --json --map --program --small --wait --with-settings --write --version"
+    options+=" --help -h"
     local word=${COMP_WORDS[COMP_CWORD]} previous=${COMP_WORDS[COMP_CWORD - 1]}
     local given=" " option offered="" at others=0
     for ((at = 1; at < COMP_CWORD; at++)); do
         case ${COMP_WORDS[at]} in
             # bash splits `OLD=NEW` into three words.
             =) ((at++)) ;;
-            --help | --version | --with-settings) given+="${COMP_WORDS[at]} " ;;
+            --help | --json | --version | --with-settings) given+="${COMP_WORDS[at]} " ;;
             --*) given+="${COMP_WORDS[at]} " && ((at++)) ;;
             *) ((others++)) ;;
         esac
@@ -17,7 +18,7 @@ _lspcheck_replay() {
     COMPREPLY=()
     if ((others == 0)); then
         case $previous in
-            --every | --wait) return ;;
+            --every | --jobs | --wait) return ;;
             --program) mapfile -t COMPREPLY < <(compgen -c -- "$word") && return ;;
             --map | --small | --write) compopt -o default && return ;;
         esac

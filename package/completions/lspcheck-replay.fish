@@ -7,7 +7,9 @@ function __lspcheck_replay_option -d 'Whether an option is not given yet, or its
 end
 
 complete -c lspcheck-replay -s h -l help -d 'Print help'
-complete -c lspcheck-replay -n '__lspcheck_replay_option every' -l every -x -d 'Also ask after each N-th change'
+complete -c lspcheck-replay -n '__lspcheck_replay_option every' -l every -x -d 'Ask after each N-th change'
+complete -c lspcheck-replay -n '__lspcheck_replay_option jobs' -l jobs -x -d 'Run at most N servers at a time'
+complete -c lspcheck-replay -n 'not contains -- --json (commandline -opc)' -l json -d 'Write each line as a JSON object'
 complete -c lspcheck-replay -l map -r -d 'Use another folder instead of one of the log'
 complete -c lspcheck-replay -n '__lspcheck_replay_option program' -l program -r -d 'The lspcheck to run'
 complete -c lspcheck-replay -n '__lspcheck_replay_option small' -l small -r -d 'Write the shortest session that shows the difference'

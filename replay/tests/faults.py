@@ -4,7 +4,7 @@ import itertools
 
 import expected
 import sessions
-from trials import check, is_clean, named, run, side_by_side
+from trials import QUESTIONS, check, is_clean, named, run, side_by_side
 
 LINE_ENDS = ["\r\n", "\r"]
 
@@ -100,10 +100,11 @@ def every_finds_what_was_put_right(program, place):
     log = place / "healed.log"
     log.write_bytes(session.log)
     done = run(program, log, "lose=4")
-    assert (done.returncode, named(done)) == (0, {}), done.stdout
+    wanted = {uri: (numbers[3], session.numbers[numbers[3]])}
+    assert named(done) == wanted, done.stdout
     for every in (1, 2, 5):
         done = run(program, log, "lose=4", options=["--every", every])
-        assert named(done) == {uri: (numbers[3], session.numbers[numbers[3]])}, (every, done.stdout)
+        assert named(done) == wanted, (every, done.stdout)
     # After each fourth change, the text is wrong once, and after each eighth never.
     assert named(run(program, log, "lose=4", options=["--every", 8])) == {}
 
@@ -127,7 +128,8 @@ def says_that_runs_disagree(program, place):
     last = session.change(uri, [(0, 0, "b")])
     log = place / "now-and-then.log"
     log.write_bytes(session.end().log)
-    done = run(program, log, f"everyother={place / 'count'}")
+    # In the replay, and in three that the questions at the end need.
+    done = run(program, log, f"first=4:{place / 'count'}")
     line = f'repeated runs disagree after editor {last} event {session.numbers[last]} notification'
     assert done.returncode == 1 and named(done) == {}, done.stdout
     assert f'{line} "textDocument/didChange"\n' in done.stdout, done.stdout
@@ -147,7 +149,7 @@ def names_a_document_opened_again(program, place):
     log.write_bytes(session.end().log)
     done = run(program, log, "keeps", options=["--small", small])
     assert named(done) == {uri: (again, session.numbers[again])}, done.stdout
-    assert " after editor " in done.stdout and "same after" not in done.stdout, done.stdout
+    assert " after editor " in done.stdout and "answers same after" not in done.stdout, done.stdout
     # initialize, initialized, didOpen, didClose, didOpen, shutdown, exit
     assert done.stdout.endswith(f"\nsmall {small} 7 messages\n"), done.stdout
     assert check(program, small) == "yes" and len(named(run(program, small, "keeps"))) == 1
@@ -178,7 +180,8 @@ def says_why_there_is_no_small_case(program, place):
     log, small = place / "none.log", place / "small.log"
     log.write_bytes(session.end().log)
     for faults, why in [
-        ([f"firsttwo={place / 'count'}"], "repeated runs disagree"),
+        # The same, and in the three that confirm what was found.
+        ([f"first=7:{place / 'count'}"], "repeated runs disagree"),
         (["careless", "lose=2"], "lspcheck says no 203 server 1 event 2"),
     ]:
         done = run(program, log, *faults, options=["--small", small])
@@ -197,10 +200,9 @@ def every_finds_it_in_a_closed_document(program, place):
     session.change(other, [(0, 0, "c")])
     log = place / "closed.log"
     log.write_bytes(session.end().log)
-    assert run(program, log, "lose=1").returncode == 0
     done = run(program, log, "lose=1", options=["--every", 2])
     assert named(done) == {uri: (lost, session.numbers[lost])}, done.stdout
-    shown = [f'document "{uri}" version 2 questions 3 differ 2', f'document "{other}" version 1 questions 3 differ 0']
+    shown = [f'document "{other}" version 1 questions {QUESTIONS} differ 0', f'document "{uri}" version 2 questions {QUESTIONS} differ 5']
     assert [it for it in done.stdout.splitlines() if it.startswith('document "')] == shown, done.stdout
 
 

@@ -1,7 +1,7 @@
 """An honest server: no difference in any session, however often it is asked."""
 
 import sessions
-from trials import TOP, blocks, check, run, side_by_side
+from trials import QUESTIONS, TOP, blocks, check, run, side_by_side
 from usage import put
 
 LINE_ENDS = ["\r\n", "\r"]
@@ -20,12 +20,11 @@ EXAMPLES = ["clangd-session.log", "stopped-twice.log", "wrong-column.log"]
 
 
 def finds_nothing(program, log, faults, times):
-    """The server offers three questions about each document."""
     for _ in range(times):
         done = run(program, log, *faults)
         assert (done.returncode, done.stderr) == (0, ""), (log, done)
         count = len(blocks(done))
-        line = f"\nno difference in {3 * count} answers about {count} documents\n"
+        line = f"\nno difference in {QUESTIONS * count} answers about {count} documents\n"
         assert count > 0 and line in done.stdout, (log, done.stdout)
 
 

@@ -7,17 +7,30 @@
   twolineends  takes CR LF for two line ends                nolineend  takes a lone CR for none
   length       drops a document if a rangeLength is wrong   open       drops what comes before a hover's answer
   otherwise    answers otherwise each time                  late=S     answers by the text of S seconds ago
-  everyother=F loses its second didChange in every other process, which it counts in the file F
-  firsttwo=F   loses it in the first two processes          keeps      has the old text if a document is reopened
+  first=N:F    loses a change to "b" in the first N processes that get one, which it counts in the file F
+  keeps      has the old text if a document is reopened
   silent=N     answers no request from the Nth on           ends=N     ends at its Nth message
   slow=S       answers after S seconds                      noisy      floods standard error
-  large        sends a frame of 50 MB after each change     child=F    starts a process, and writes its id
+  large        sends a frame of 50 MB after a change        child=F    starts a process, and writes its id
   deaf         reads nothing, and ignores signals           refuse=M   answers the method M with an error
   broken       sends bytes that are not frames              utf-8      counts columns in bytes, and says so
-  ask          asks the editor for its settings after each didOpen, and for nonsense
+  ask          asks the editor after each didOpen for its settings, for two edits, and for nonsense
   mute=M       never answers the method M                   offerless  offers none of the questions
   closed       knows no document                            picky      fails if a text has an X
   careless     answers without "jsonrpc"                    own        has an answer of its own in each process
+  one          takes one change of a message, the first
+  defs[=WORD]  has nothing but the names that `def` or `int`, or this word, declare
+  complains    publishes these names as diagnostics, and has nothing else  pulls   has them as such if it is asked
+  trails       publishes how each line ends, as diagnostics                lags=S  takes S seconds to set a text
+  dies=T       ends at a change to the text T                              wholeless  ignores changes of the whole text
+  opens=HOW    takes the text of a didOpen otherwise: as "" (ignored), from the disk, without CR (crlf), up to a NUL
+               (nul), without a byte order mark (bom), or composed (nfc)
+  forgets=N    loses the Nth didOpen
+  saved        answers by the text that was opened or saved last   says=T     says so on standard error at a change to T
+  modified=N   answers the first N questions in each process with an error that passes
+  scoped       has the names of settings, which it asks for in turns   folders  has the folders that are added
+  busy=N:F     does not answer symbols in the first N processes that are asked, which it counts in the file F
+  tells        gives its text itself                                 refuses    answers initialize with an error
 """
 
 import json
@@ -27,6 +40,7 @@ import select
 import signal
 import sys
 import time
+import unicodedata
 
 FAULTS = dict(word.partition("=")[::2] for word in sys.argv[1:])
 UNITS = {"characters": lambda it: 1, "bytes": lambda it: len(it.encode()), "utf-8": lambda it: len(it.encode())}
@@ -38,7 +52,7 @@ class Text:
     """A document; `earlier` are its texts with the times at which they were set."""
 
     def __init__(self, text, version):
-        self.earlier, self.version, self.is_lost = [], version, False
+        self.earlier, self.version, self.is_lost, self.saved = [], version, False, text
         self.set(text)
 
     def set(self, text):
@@ -47,6 +61,8 @@ class Text:
 
     def shown(self):
         """The text that answers are about."""
+        if "saved" in FAULTS:
+            return self.saved
         late = time.monotonic() - float(FAULTS.get("late", 0))
         return next((text for when, text in reversed(self.earlier) if when <= late), self.earlier[0][1])
 
@@ -64,7 +80,7 @@ class Text:
 
     def change(self, change):
         if change.get("range") is None:
-            return self.set(change["text"])
+            return self.set(self.text if "wholeless" in FAULTS else change["text"])
         start, end = (self.offset(change["range"][it]) for it in ("start", "end"))
         length = sum(1 + (it > "\uffff") for it in self.text[start:end])
         self.is_lost |= "length" in FAULTS and change.get("rangeLength", length) != length
@@ -100,20 +116,82 @@ def symbols(text):
         yield {"name": line or "-", "kind": 13, "range": place, "selectionRange": place, "data": time.time()}
 
 
+DECLARED = re.compile(rf"(?:{FAULTS.get('defs') or 'def|int'}) (\w+)")
+
+
+def declared(text):
+    """Symbols of what is declared, wherever it is."""
+    for number, line in enumerate(lines(text)):
+        for found in DECLARED.finditer(line):
+            place = {"start": position(number, found.start(1)), "end": position(number, found.end(1))}
+            yield {"name": found[1], "kind": 13, "range": place, "selectionRange": place}
+
+
+def has_come(fault):
+    """Whether this process is one of the first N that get here, which are counted in a file."""
+    most, _, counted = FAULTS[fault].partition(":")
+    with open(counted, "a+") as file:
+        file.write("x")
+        return file.tell() <= int(most)
+
+
+def text_on_disk(uri):
+    """The text of a file, or an empty one. What it needs takes long to import, and tests start many servers."""
+    from pathlib import Path
+    from urllib.parse import unquote
+
+    path = Path(unquote(uri[7:]))
+    return path.read_text() if path.is_file() else ""
+
+
+# How a didOpen is taken otherwise.
+TAKEN = {
+    "ignored": lambda uri, text: "",
+    "disk": lambda uri, text: text_on_disk(uri),
+    "crlf": lambda uri, text: text.replace("\r\n", "\n"),
+    "nul": lambda uri, text: text.partition("\0")[0],
+    "bom": lambda uri, text: text.lstrip("\ufeff"),
+    "nfc": lambda uri, text: unicodedata.normalize("NFC", text),
+}
+
+def complaints(text):
+    """A diagnostic about each name that is declared."""
+    return [{"range": it["range"], "message": f"unused: {it['name']}"} for it in declared(text)]
+
+
+def trailing(text):
+    """A diagnostic about the end of each line."""
+    return [{"range": whole(text), "message": it[-2:]} for it in lines(text)]
+
+
+# What is published about a text.
+PUBLISHED = {"complains": complaints, "trails": trailing}
+
 ANSWERS = {
     "textDocument/formatting": lambda text: [{"range": whole(text), "newText": text}],
     "textDocument/foldingRange": lambda text: list(folds(text)),
     "textDocument/documentSymbol": lambda text: list(symbols(text)),
     "textDocument/hover": lambda text: {"contents": str(len(text))},
+    "textDocument/diagnostic": lambda text: {"kind": "full", "items": complaints(text)},
 }
 OFFERS = {"documentFormattingProvider": True, "foldingRangeProvider": True, "documentSymbolProvider": True,
           "hoverProvider": True, "textDocumentSync": {"openClose": True, "change": 2}}
+# What is offered with faults that are about that.
+FEWER = {
+    "offerless": {},
+    "defs": {it: OFFERS[it] for it in ("documentSymbolProvider", "textDocumentSync")},
+    "complains": {"textDocumentSync": OFFERS["textDocumentSync"]},
+    "pulls": {"textDocumentSync": OFFERS["textDocumentSync"], "diagnosticProvider": {}},
+}
 
 
 class Server:
     def __init__(self):
         self.texts, self.closed, self.held = {}, {}, b""
-        self.count = self.requests = self.changes = self.answered = 0
+        self.count = self.requests = self.changes = self.answered = self.opened = 0
+        # What shows in its answers, but in no text.
+        self.more = []
+        self.is_busy = None
 
     def send(self, **message):
         head = {} if "careless" in FAULTS and "result" in message else {"jsonrpc": "2.0"}
@@ -140,6 +218,8 @@ class Server:
         if self.count == int(FAULTS.get("ends", -1)):
             print("out of luck\n\x1b[31mat the end", file=sys.stderr)
             sys.exit(3)
+        if "settings-" in str(message.get("id")) and "scoped" in FAULTS:
+            self.more = [{"name": str(it)} for it in message["result"]]
         if "method" in message:
             self.answer(message) if "id" in message else self.hear(message["method"], message.get("params"))
 
@@ -153,52 +233,99 @@ class Server:
             return
         text = self.texts.get(params.get("textDocument", {}).get("uri"))
         if method == "initialize":
-            offers = {} if "offerless" in FAULTS else OFFERS
-            offers = {**offers, **({"positionEncoding": "utf-8"} if "utf-8" in FAULTS else {})}
-            self.send(id=message["id"], result={"capabilities": offers})
+            self.greet(message["id"])
+        elif method == "rust-analyzer/viewFileText":
+            self.send(id=message["id"], result=self.texts[params["uri"]].text)
         elif method == FAULTS.get("refuse") or method in ANSWERS and (
                 text is None or text.is_lost or "picky" in FAULTS and "X" in text.text):
             self.send(id=message["id"], error={"code": -32602, "message": "no such document"})
         else:
-            result = ANSWERS[method](text.shown()) if method in ANSWERS else None
-            self.answered += 1
-            if "otherwise" in FAULTS and isinstance(result, list):
-                result = [*result, {"now": self.answered}]
-            if "own" in FAULTS and isinstance(result, list):
-                result = [*result, {"own": os.getpid()}]
-            self.send(id=message["id"], result=result)
+            self.send_result(message["id"], method, text)
+
+    def greet(self, id):
+        if "refuses" in FAULTS:
+            return self.send(id=id, error={"code": -32603, "message": "not today"})
+        offers = next((FEWER[it] for it in FEWER if it in FAULTS), OFFERS)
+        offers = {**offers, **({"positionEncoding": "utf-8"} if "utf-8" in FAULTS else {})}
+        name = {"serverInfo": {"name": "rust-analyzer"}} if "tells" in FAULTS else {}
+        return self.send(id=id, result={"capabilities": offers, **name})
+
+    def send_result(self, id, method, text):
+        result = ANSWERS[method](text.shown()) if method in ANSWERS else None
+        if method == "textDocument/documentSymbol":
+            result = [*(declared(text.shown()) if "defs" in FAULTS else result), *self.more]
+            if "busy" in FAULTS and self.is_busy is None:
+                self.is_busy = has_come("busy")
+            if self.is_busy:
+                return
+        self.answered += 1
+        if self.answered <= int(FAULTS.get("modified", 0)):
+            return self.send(id=id, error={"code": -32801, "message": "content modified"})
+        if "otherwise" in FAULTS and isinstance(result, list):
+            result = [*result, {"now": self.answered}]
+        if "own" in FAULTS and isinstance(result, list):
+            result = [*result, {"own": os.getpid()}]
+        self.send(id=id, result=result)
+
+    def open(self, uri, document):
+        self.opened += 1
+        if self.opened == int(FAULTS.get("forgets", -1)):
+            return
+        kept = self.closed.get(uri) if "keeps" in FAULTS else None
+        text = TAKEN.get(FAULTS.get("opens"), lambda _, text: text)(uri, document["text"])
+        self.texts[uri] = kept or Text(text, document["version"])
+
+    def ask_settings(self, count):
+        """For one folder after the other, and from the last on, if it was asked before."""
+        items = [{"scopeUri": f"file:///{it}", "section": "a"} for it in ("one", "two")]
+        self.send(id=f"settings-{count}", method="workspace/configuration", params={"items": items})
+
+    def ask_the_editor(self):
+        self.send(id=f"ask-{self.count}", method="workspace/configuration", params={"items": [{}, {}]})
+        for it in ("edit", "again"):
+            self.send(id=f"{it}-{self.count}", method="workspace/applyEdit", params={"edit": {}})
+        self.send(id=self.count, method="nonsense")
 
     def hear(self, method, params):
         if method == "exit":
             sys.exit(0)
         document = (params or {}).get("textDocument", {})
         uri = document.get("uri")
+        if method == "workspace/didChangeWorkspaceFolders" and "folders" in FAULTS:
+            self.more += [{"name": it["uri"]} for it in params["event"]["added"]]
+        if method == "textDocument/didSave" and uri in self.texts:
+            self.texts[uri].saved = self.texts[uri].text
         if method == "textDocument/didOpen" and "closed" not in FAULTS:
-            kept = self.closed.get(uri) if "keeps" in FAULTS else None
-            self.texts[uri] = kept or Text(document["text"], document["version"])
+            self.open(uri, document)
+            if "scoped" in FAULTS:
+                self.ask_settings(self.count)
             if "ask" in FAULTS:
-                self.send(id=f"ask-{self.count}", method="workspace/configuration", params={"items": [{}, {}]})
-                self.send(id=self.count, method="nonsense")
+                self.ask_the_editor()
         elif method == "textDocument/didClose":
             self.closed[uri] = self.texts.pop(uri, None)
         elif method == "textDocument/didChange" and uri in self.texts:
             self.change(self.texts[uri], document["version"], params["contentChanges"])
         else:
             return
-        self.send(method="textDocument/publishDiagnostics", params={"uri": uri, "diagnostics": []})
+        text = self.texts.get(uri)
+        found = [it for fault in PUBLISHED if fault in FAULTS and text for it in PUBLISHED[fault](text.text)]
+        self.send(method="textDocument/publishDiagnostics", params={"uri": uri, "diagnostics": found})
 
     def change(self, text, version, changes):
         self.changes += 1
+        time.sleep(float(FAULTS.get("lags", 0)))
         is_lost = self.changes == int(FAULTS.get("lose", -1)) or "gaps" in FAULTS and version > text.version + 1
         text.version = version
-        counted = FAULTS.get("everyother") or FAULTS.get("firsttwo")
-        if counted and self.changes == 2:
-            with open(counted, "a+") as file:
-                file.write("x")
-                is_lost = file.tell() % 2 == 1 if "everyother" in FAULTS else file.tell() <= 2
-        for change in [] if is_lost else changes[::-1] if "backwards" in FAULTS else changes:
+        if "first" in FAULTS and changes and changes[0]["text"] == "b":
+            is_lost = has_come("first")
+        for new in (it["text"] for it in changes):
+            if new == FAULTS.get("says"):
+                print("cannot apply a change", file=sys.stderr, flush=True)
+            if new == FAULTS.get("dies"):
+                os.kill(os.getpid(), signal.SIGSEGV)
+        for change in [] if is_lost else changes[::-1] if "backwards" in FAULTS else changes[: 1 if "one" in FAULTS else None]:
             text.change(change)
-        if "large" in FAULTS:
+        if "large" in FAULTS and self.changes == 1:
             self.send(method="large", params={"text": "x" * 50_000_000})
 
 

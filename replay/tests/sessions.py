@@ -61,9 +61,11 @@ class Session:
         self.log += record
         self.events += 1
 
-    def open(self, uri, text=START):
+    def open(self, uri, text=START, language="c"):
         self.documents[uri] = document = Document(uri, text)
-        self.note(document, self.send(opened(uri, 0, text)))
+        message = opened(uri, 0, text)
+        message["params"]["textDocument"]["languageId"] = language
+        self.note(document, self.send(message))
 
     def close(self, uri):
         del self.documents[uri]

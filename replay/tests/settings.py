@@ -13,8 +13,8 @@ SERVER = [sys.executable, "-IS", HERE / "obedient.py"]
 URI = "file:///old/folder/a.py"
 # What gets to each server, and what gets to the one that is sent the whole log. Each word stands for a
 # place in a log that has a command.
-TO_EACH = "options strayOption experimental root configuration answer consent answeredFolder".split()
-TO_ONE = """execute customRequest customNotification noQuestion resolve files added strayQuestion strayChange
+TO_EACH = "options strayOption experimental root configuration answer consent answeredFolder added".split()
+TO_ONE = """execute customRequest customNotification noQuestion resolve files strayQuestion strayChange
 formatting name language shutdown""".split()
 
 
@@ -57,7 +57,7 @@ class Told:
             ("c", "window/showMessageRequest", {"title": "Run", "command": self.echo("consent")}),
             ("f", "workspace/workspaceFolders", [{"uri": self.folder("answeredFolder"), "name": "f"}]),
         ]:
-            self.session.hear(request(id, method, {}))
+            self.session.hear(request(id, method, {"items": [{}]}))
             self.session.send(result(id, answer))
 
     def ask(self, method, params):
@@ -175,7 +175,7 @@ def lists_what_is_left_out(program, place):
     assert done.stdout.endswith(WITHOUT % 4) and f"\nreplayed {session.sent - 3} editor " in done.stdout, done.stdout
     # It is said where nothing can be said, too.
     done = run(program, place / "session.log", "ends=3")
-    assert done.returncode == 2 and "ended with status 3" in done.stderr, done
+    assert done.returncode == 1 and '\nended "ended with status 3"\n' in done.stdout, done
     assert done.stdout.endswith(WITHOUT % 4), done
 
 

@@ -12,7 +12,7 @@ import sessions
 from expected import messages_of
 from logs import frame, notification, request, result, snapshot
 from processes import quoted
-from trials import COMMAND, TOP, check, run, run_waiting
+from trials import COMMAND, QUESTIONS, TOP, check, run, run_waiting
 
 URI = "file:///old/folder/a%20b.py"
 AT_THE_END = ('"shutdown"', '"exit"')
@@ -101,7 +101,7 @@ def reads_standard_input(program, place):
     folder.mkdir()
     how = {"env": {**os.environ, "TMPDIR": str(folder)}}
     wanted = run(program, log, "lose=2", **how)
-    assert wanted.returncode == 1 and "differs after editor " in wanted.stdout, wanted
+    assert wanted.returncode == 1 and "answers differ after editor " in wanted.stdout, wanted
     piped = run(program, "-", "lose=2", input=log.read_bytes().decode(), **how)
     assert (piped.returncode, piped.stdout, piped.stderr) == (1, wanted.stdout, ""), piped
     with log.open() as file:
@@ -151,7 +151,11 @@ def says_why_nothing_can_be_said(program, place):
     refuses(run(program, log, server=["/no/such/server"]), 2, "/no/such/server: No such file")
     refuses(run(program, log, "offerless"), 2, "offers none of the questions")
     failing = 'fails at textDocument/formatting: error -32602 "no such document"'
-    refuses(run(program, log, "closed"), 2, failing)
+    hint = "; if it needs the files of a project, see --map"
+    refuses(run(program, log, "closed"), 2, failing + hint)
+    mapped = run(program, log, "closed", options=["--map", f"/old={place}"])
+    refuses(mapped, 2, failing)
+    assert "see --map" not in mapped.stderr, mapped
     refuses(run(program, log, "utf-8"), 2, "agrees on utf-8 columns, and not on utf-16, as in the log")
     refuses(run("/no/such/lspcheck", log), 2, "/no/such/lspcheck: there is no such program")
     refuses(run(shutil.which("true"), log), 2, "this program is not lspcheck")
@@ -177,8 +181,8 @@ def writes_each_value(program, place):
         f"replayed {session.sent} editor 8 server",
         "answers 4 same 3 became-error 0 became-result 1",
         f'became-result editor {session.sent - 2} event {numbers[session.sent - 2]} request {asked} "textDocument/references"',
-        f'document "{URI}" version 2 questions 3 differ 0',
-        "no difference in 3 answers about 1 documents",
+        f'document "{URI}" version 2 questions {QUESTIONS} differ 0',
+        f"no difference in {QUESTIONS} answers about 1 documents",
     ], report
     assert (done.returncode, done.stderr) == (0, ""), done
     lines = done.stdout.splitlines()[judged:]
@@ -200,18 +204,21 @@ def writes_the_difference(program, place):
     small = place / "small.log"
     done = run(program, log, "lose=2", options=[*WHOLE, "--small", small])
     lines = done.stdout.splitlines()
-    start = lines.index(f'document "{URI}" version 2 questions 3 differ 2')
+    start = lines.index(f'document "{URI}" version 2 questions {QUESTIONS} differ 4')
     whole = {"start": {"line": 0, "character": 0}, "end": {"line": 3, "character": 0}}
     texts = ["😀def f():\n    return 1\n", "😀defgf():\n    return 1\n"]
     formatted = [json.dumps([{"range": whole, "newText": it}], ensure_ascii=False, separators=(",", ":")) for it in texts]
-    assert lines[start + 1 : start + 6] == [
-        f'differs after editor {last} event {session.numbers[last]} notification "textDocument/didChange"',
-        f"same after editor {before} event {session.numbers[before]}",
+    first = last - 3
+    assert lines[start + 1 : start + 8] == [
+        f'answers differ after editor {last} event {session.numbers[last]} notification "textDocument/didChange"',
+        f"answers same after editor {before} event {session.numbers[before]}",
+        'missing line 0 "😀defgf():"',
+        f"needs editor {first} event {session.numbers[first]} to editor {last} event {session.numbers[last]}",
         'question "textDocument/formatting"',
         f"replayed {formatted[0]}",
         f"fresh {formatted[1]}",
     ], lines
-    assert lines[start + 6] == 'question "textDocument/documentSymbol"' and len(lines) == start + 10, lines
+    assert lines[start + 8] == 'question "textDocument/documentSymbol"' and len(lines) == start + 12, lines
     # The change is the second in the process, so the small case has both, and what is between them:
     # initialize, initialized, didOpen, didChange, two requests, didChange, shutdown, exit.
     assert lines[-1] == f"small {small} 9 messages", lines
@@ -285,31 +292,34 @@ def asks_before_all_is_closed(program, place):
     session.close(URI)
     log = put(place, session.end())
     done = run(program, log)
-    assert f'document "{URI}" version 2 questions 3 differ 0\n' in done.stdout, done
+    assert f'document "{URI}" version 2 questions {QUESTIONS} differ 0\n' in done.stdout, done
     done = run(program, log, "lose=2")
-    assert f"differs after editor {last} event {session.numbers[last]} " in done.stdout, done.stdout
+    assert f"answers differ after editor {last} event {session.numbers[last]} " in done.stdout, done.stdout
 
 
 def writes_the_session(program, place):
-    """--write: the editor's bytes, its answers, the snapshots in their places; lspcheck says yes."""
+    """--write: the editor's bytes, its answers, the snapshots in their places, no questions; lspcheck says yes."""
     session = small_session()
     session.form = 1
+    session.hear(request("e", "workspace/applyEdit", {"edit": {}}))
+    session.send(result("e", {"applied": True}))
     log, new = put(place, session.end()), place / "new.log"
     done = run(program, log, "ask", "slow=0.1", options=[*WHOLE, "--write", new])
     assert done.returncode == 0 and check(program, new) == "yes", done
     assert new.read_bytes().startswith(b"lsp-session 2\n") and new.stat().st_mode & 0o777 == 0o600
-    assert answered_before(program, log) == answered_before(program, new)[: session.sent - 3]
+    assert answered_before(program, log) == answered_before(program, new)
     kept, sent = list(messages_of(session.log)), list(messages_of(new.read_bytes()))
     kept[0]["params"]["processId"] = sent[0]["params"]["processId"]
     assert isinstance(sent[0]["params"]["processId"], int) and sent[0]["params"]["processId"] != 1
     answers = [it for it in sent if "method" not in it]
     assert answers == [
         {"jsonrpc": "2.0", "id": "ask-3", "result": [{"kept": "é"}, None]},
+        # The log has an answer to one such request, and none to a second one.
+        {"jsonrpc": "2.0", "id": "edit-3", "result": {"applied": True}},
+        {"jsonrpc": "2.0", "id": "again-3", "result": {"applied": False}},
         {"jsonrpc": "2.0", "id": 3, "error": {"code": -32601, "message": "Method not found"}},
     ], answers
-    asked = [it for it in sent if it.get("id") in (5, 6, 7)]
-    assert [it["method"].partition("/")[2] for it in asked] == ["formatting", "foldingRange", "documentSymbol"]
-    rest = [it for it in sent if it not in answers and it not in asked]
+    rest = [it for it in sent if it not in answers]
     assert rest == [it for it in kept if "method" in it], rest
     records = [re.findall(rb"^(?:T \d+|E(?= \d+\nContent-Length: \d+\r\n\r\n.*didChange))", it.read_bytes(), re.M) for it in (log, new)]
     assert records[0] == records[1] and b"T 2" in records[0], records
@@ -342,7 +352,7 @@ def puts_other_folders(program, place):
     log, new = put(place, session.end()), place / "new.log"
     done = run(program, log, options=[*WHOLE, "--write", new, "--map", f"/old/folder/={new_folder}"])
     assert done.returncode == 0 and check(program, new) == "yes", done
-    assert f'document "{URI}" version 0 questions 3 differ 0' in done.stdout, done.stdout
+    assert f'document "{URI}" version 0 questions {QUESTIONS} differ 0' in done.stdout, done.stdout
     first, _, opened, settings, *_ = messages_of(new.read_bytes())
     uri = "file://" + str(new_folder).replace(" ", "%20").replace("é", "%C3%A9")
     assert first["params"]["rootUri"] == uri and first["params"]["rootPath"] == str(new_folder), first
@@ -365,7 +375,7 @@ def asks_what_is_offered(program, place):
     helped = run(program, "--help", server=[], command=COMMAND).stdout
     manual = (TOP / "docs/lspcheck-replay.1").read_text().replace("\\-", "-")
     options = re.findall(r"^  (--[\w-]+)", helped, re.M)
-    assert len(options) == 8, helped
+    assert len(options) == 10, helped
     assert sorted(re.findall(r"^\.TP\n\.BI? (--[\w-]+)", manual, re.M)) == sorted(options), options
     synopsis = manual.partition(".SH DESCRIPTION")[0]
     assert sorted([*re.findall(r"--[\w-]+", synopsis), "--version"]) == sorted(options), synopsis
