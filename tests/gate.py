@@ -41,6 +41,7 @@ GATE = [
     "tests/api/run",
     f"tests/of_checks {ANY}",
     f"page/run {PROVED}",
+    f"web/run --few {PROVED}",
     f"replay/run {ANY}",
     f"tests/golden/run {PROVED}",
     f"tests/cli/run {PROVED}",

@@ -23,7 +23,7 @@ UNPROVED = [
     "package/completions/run", "replay/run",
 ]
 OVER_PROVED = [
-    "tests/golden/run", "tests/cli/run", "page/run", "tests/shrink/run", "tests/redact/run", "package/run",
+    "tests/golden/run", "tests/cli/run", "page/run", "web/run", "tests/shrink/run", "tests/redact/run", "package/run",
     "tests/faults/run",
 ]
 QUICK = ["tests/guarantees", "tests/links", "tests/words", "tests/of_run", "tests/run"]
@@ -126,7 +126,7 @@ def named(path):
     more = {
         "rt": "./run --prove ci", "run": "./run --program", "tests/mutants/run": "tests/mutants/run --stale",
         "tests/faults/run": "tests/faults/run --few", "package/completions/run": "package/completions/run bash",
-        "tests/run": "tests/run --few",
+        "tests/run": "tests/run --few", "web/run": "web/run --few",
     }
     return more.get(path, path)
 
