@@ -10,12 +10,22 @@ use lsp_rpc::Result;
 use std::alloc::Global;
 
 /// How the names and the characters of one log are shown.
-#[derive(Drop)]
 pub(crate) struct Redaction {
     pub(crate) alloc: Global,
     pub(crate) names: Names,
     /// The character that must stay apart from others of its kind.
     pub(crate) apart: Option<char>,
+}
+
+// Written by hand, so that a function that lets one go is not proved over all that it holds.
+impl Drop for Redaction {
+    fn drop(self) {
+        let Redaction {
+            alloc: _,
+            names: _,
+            apart: _,
+        } = self;
+    }
 }
 
 impl Redaction {
