@@ -116,8 +116,10 @@ impl Redacting {
             → AddsLast (max most 1) redaction.old redaction.new (raw_view seen.now.raw) rule
             (spec.kept_of before event) (string_bytes text.old) (string_bytes text.new)) }
     {
-        let kept = kept_of(redaction.alloc, seen, self.awaits)?;
-        push_last(text, redaction, kept.as_ref(), seen.raw, rule, most)
+        match kept_of(redaction.alloc, seen, self.awaits)? {
+            Some(kept) => push_kept(text, redaction, &kept, most),
+            None => push_broken(text, redaction.alloc, seen.raw, rule, most),
+        }
     }
 
     /// The log of what is kept and of the event that offends.
@@ -139,33 +141,6 @@ impl Redacting {
         let mut left = self.said(redaction, format_of(&held.docs), most)?;
         self.say_last(&mut left, redaction, seen, rule, most)?;
         Ok(left)
-    }
-}
-
-/// Adds the event that offends, of which this is kept.
-fn push_last(
-    text: &mut String,
-    redaction: &mut Redaction,
-    kept: Option<&Kept>,
-    raw: Raw<'_>,
-    rule: u16,
-    most: usize,
-) -> Result<()>
-    ensures { OnOk result ((before : List Event) (event : Event)
-        → option_map (λ k. kept_view k.now) kept.entry ≡ spec.kept_of before event
-        → Reads (raw_view raw.entry) event → IsFaultOf rule event
-        → AddsLast (max most 1) redaction.old redaction.new (raw_view raw.entry) rule
-        (spec.kept_of before event) (string_bytes text.old) (string_bytes text.new)) }
-{
-    match kept {
-        Some(kept) => {
-            push_kept(text, redaction, kept, most)?;
-            Ok(())
-        }
-        None => {
-            push_broken(text, redaction.alloc, raw, rule, most)?;
-            Ok(())
-        }
     }
 }
 

@@ -17,7 +17,6 @@ pub(crate) struct Redaction {
     pub(crate) apart: Option<char>,
 }
 
-// Written by hand, so that a function that lets one go is not proved over all that it holds.
 impl Drop for Redaction {
     fn drop(self) {
         let Redaction {
