@@ -1,4 +1,4 @@
-use Rattle.std.proofs.Common.{◌≡◌, [], List, ℕ, Bool, true, false, ap, append-nil, refl, string_bytes}
+use Rattle.std.proofs.Common.{[], List, ℕ, Bool, true, false, ap, append-nil, refl, string_bytes}
 use Rattle.std.proofs.Common.{subst, sym, if◌then◌else◌}
 use Rattle.lsp_frame.specs.Bounds.{Bounds}
 use Rattle.lsp_verdict.specs.Given.{verdict_view}

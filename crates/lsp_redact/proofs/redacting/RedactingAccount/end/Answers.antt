@@ -1,4 +1,4 @@
-use Rattle.std.proofs.Common.{◌≡◌, ◌++◌, List, ℕ, ap, ◌∙◌, map, max, string_bytes}
+use Rattle.std.proofs.Common.{◌≡◌, ap, ◌∙◌, map, max, string_bytes}
 use Rattle.lsp_docs.specs.Documents.{Terms}
 use Rattle.lsp_judge.proofs.JudgingSteps.{ends_given}
 use Rattle.lsp_verdict.specs.Given.{verdict_view}

@@ -1,5 +1,4 @@
-use Rattle.std.proofs.Common.{◌≡◌, ◌++◌, List, ℕ, ap, refl, sym, subst, ◌∙◌, map, max, string_bytes}
-use Rattle.lsp_docs.specs.Documents.{Terms}
+use Rattle.std.proofs.Common.{ap, refl, subst, ◌∙◌, string_bytes}
 use Rattle.lsp_replay.specs.Telling.{HasFate, ShowsFault}
 use Rattle.lsp_replay.specs.declared.seen.Fate.{Fate}
 use Rattle.lsp_replay.proofs.AllHeard.{kept_seen}
@@ -7,13 +6,8 @@ use Rattle.lsp_replay.proofs.Wanting.{on_err}
 use Rattle.lsp_verdict.specs.Given.{verdict_view}
 use Rattle.lsp_verdict.specs.Heard.{heard_events}
 use Rattle.lsp_verdict.specs.Offences.{Offence}
-use Rattle.lsp_verdict.specs.Placed.{Raw}
-use Rattle.lsp_redact.specs.Kept.{kept_of}
-use Rattle.lsp_redact.specs.Records.{most_of, written}
-use Rattle.lsp_redact.specs.Redacting.{AddsLast, format_by, shape_to}
-use Rattle.lsp_redact.specs.View.{kept_view}
-use Rattle.lsp_redact.proofs.AccountKeeps.{apart_here, own_reads, own_speaks}
-use Rattle.lsp_redact.proofs.AccountSteps.{fault_by, log_to, says_last, says_none}
+use Rattle.lsp_redact.proofs.AccountKeeps.{apart_here}
+use Rattle.lsp_redact.proofs.AccountSteps.{says_last, says_none}
 use Rattle.lsp_redact.proofs.redacting.RedactingAccount.event.Goals as goal
 
 pub returns-in_default : goal.returns-in_default
