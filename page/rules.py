@@ -54,6 +54,20 @@ def rows_of(section):
             yield [plain(cell.strip()) for cell in line.strip("|").replace(r"\|", "¦").split("|")]
 
 
+def add_look(rule, text):
+    """Adds to what a reader should look at after a violation of the rule. A cell ends without a full stop."""
+    before = rule.get("look")
+    rule["look"] = f"{before.removesuffix('.')}. {text}" if before else text
+
+
+def read_headed(section, rules):
+    """Adds what the parts of a section say whose headings end with the numbers of rules in parentheses."""
+    for part in re.split(r"^### ", section, flags=re.M)[1:]:
+        heading = part.split("\n", 1)[0]
+        for number in numbers_of(heading.rpartition("(")[2].rstrip(")")):
+            add_look(rules.setdefault(number, {}), "\n".join(paragraphs_of(part)))
+
+
 def read_section(section, rules):
     """Adds what one section says about the rules that have a row in it."""
     paragraphs = list(paragraphs_of(section))
@@ -61,7 +75,8 @@ def read_section(section, rules):
         for number in numbers_of(row[0]):
             rule = rules.setdefault(number, {})
             if len(row) == 2:
-                rule["look"] = f"{rule.get('look', '')} {row[1]}".lstrip()
+                if row[1] != "see below":
+                    add_look(rule, row[1])
                 continue
             rule.update(zip(("text", "when", "causes", "fault"), row[1:]))
             rule["more"] = [it for it in paragraphs if re.search(rf"\b{number}\b", it)]
@@ -72,4 +87,5 @@ def rules():
     found = {}
     for section in re.split(r"^## ", page_of_rules(), flags=re.M):
         read_section(section, found)
+        read_headed(section, found)
     return found
