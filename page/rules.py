@@ -55,13 +55,13 @@ def rows_of(section):
 
 
 def add_look(rule, text):
-    """Adds to what a reader should look at after a violation of the rule. A cell ends without a full stop."""
+    """Adds to what to look at after a violation of the rule. A cell ends without a full stop."""
     before = rule.get("look")
     rule["look"] = f"{before.removesuffix('.')}. {text}" if before else text
 
 
 def read_headed(section, rules):
-    """Adds what the parts of a section say whose headings end with the numbers of rules in parentheses."""
+    """Adds what the parts of a section say whose headings name rules in parentheses."""
     for part in re.split(r"^### ", section, flags=re.M)[1:]:
         heading = part.split("\n", 1)[0]
         for number in numbers_of(heading.rpartition("(")[2].rstrip(")")):
