@@ -42,7 +42,6 @@ SAYS = re.compile(r"lspcheck: .*\n|no such document\n|no content\n|no texts .*\n
 
 # How many of the first lines that a page shows are a report on standard error, if there is one.
 REPORTED = {
-    "lspcheck upgrade examples/stopped-twice.log | lspcheck check | head -1": 2,
     "lspcheck text 6 file:///tmp/lspwork/cpp/main.cpp examples/stopped-twice.log": 2,
 }
 
