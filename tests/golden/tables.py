@@ -323,7 +323,8 @@ OF_SIZE = {"607", "bytes", "limit"}
 
 def lines_of(page):
     """The kinds of lines that docs/REPORT.md lists for an explanation: the words that are fixed."""
-    listed = re.findall(r"^\| `([^`|]*)` \| (?:\d|a bad log)", page, re.M)
+    cells = re.findall(r"^\| ([^|]*) \| (?:\d|a bad log)", page, re.M)
+    listed = re.findall(r"`([^`]*)`", "\n".join(cells))
     return {" ".join(re.sub(r"<[^>]*>|\.\.", "", it).split()) for it in listed}
 
 
