@@ -1,0 +1,101 @@
+"""Which wrong store explains what a server answers: fresh documents are given the texts that each store
+would hold, and asked the same."""
+
+from dataclasses import dataclass, replace
+
+from features import SEPARATORS
+from live import unlike
+from messages import changed
+from stores import KINDS, held
+
+# How many texts are tried of each kind of stores.
+MOST_TEXTS = 24
+CRASH = "server ends"
+
+
+@dataclass(frozen=True)
+class Cause:
+    """The names of what explains a drift: one, or two if nothing tells them apart, or none."""
+
+    names: tuple
+
+    def __str__(self):
+        return " or ".join(self.names) if self.names else "unexplained"
+
+
+class Explaining:
+    """The search for the store that explains a case, in a server that runs. If the server takes a
+    didOpen in a wrong way, the texts are given by changes."""
+
+    def __init__(self, live, by_change=False):
+        self.live, self.by_change = live, by_change
+
+    def cause(self, case, whole):
+        """The cause of a case that was cut down from a whole one: that tells apart what explains
+        both."""
+        found = next(filter(None, (self.explaining(case, it) for it in KINDS)), [])
+        if len(names_of(found)) > 1 and whole != case:
+            found = self.explaining(whole, found) or found
+        names = names_of(found)
+        if len(names) == 1 and names[0] in SEPARATING:
+            names = (self.separators(case, names[0]),)
+        return Cause(names[:2])
+
+    def explaining(self, case, stores):
+        """The stores with which a document would answer as the server does."""
+        texts = self.texts_of(case, stores)
+        if not texts:
+            return []
+        document, _ = self.live.play(case)
+        answers, = self.live.answers([document])
+        found = []
+        for held_texts in list(texts)[:MOST_TEXTS]:
+            if not unlike(answers, self.answers_to(held_texts)):
+                found += texts[held_texts]
+        return sorted(found, key=stores.index)
+
+    def texts_of(self, case, stores):
+        """The wrong texts that stores would hold, before the lines are overwritten and after, each with
+        its stores."""
+        document, sent = self.live.play(case)
+        self.live.answers([document], overwrites=False)
+        contents, found = [it.content for it in sent], {}
+        more = [changed(document.uri, 0, it) for it in document.messages]
+        encoding = self.live.greeting.encoding
+        for store in stores:
+            texts = held(store, contents, encoding, document.uri, more)
+            if texts != (document.text, document.overwriting.text):
+                found.setdefault(texts, []).append(store)
+        return found
+
+    def answers_to(self, texts):
+        """What is answered where a document has these texts, or none, before the lines are overwritten
+        and after."""
+        before, after = (
+            self.live.answers_without_text() if it is None else self.live.answers_to_text(it, self.by_change)
+            for it in texts
+        )
+        late = {(method, True): answer for (method, _), answer in after.items()}
+        return {**before, **late}
+
+    def separators(self, case, name):
+        """Each character that ends a line, if the one in this case does."""
+        own = SEPARATING[name]
+        found = [it for it in SEPARATORS if it == own or self.live.differing(exchanged(case, own, it))]
+        return f"{', '.join(SEPARATORS[it] for it in found)} {'end' if found[1:] else 'ends'} a line"
+
+
+SEPARATING = {f"{name} ends a line": it for it, name in SEPARATORS.items()}
+
+
+def names_of(stores):
+    return tuple(dict.fromkeys(it.name for it in stores))
+
+
+def exchanged(case, old, new):
+    """A case with another character."""
+    steps = tuple(
+        replace(it, edits=tuple(replace(edit, text=edit.text.replace(old, new)) for edit in it.edits))
+        for it in case.steps
+    )
+    return replace(case, texts=tuple(it.replace(old, new) for it in case.texts), steps=steps)
