@@ -12,6 +12,8 @@ from pathlib import Path
 from program import Failed
 
 PAGE = os.sysconf("SC_PAGE_SIZE")
+# How many seconds a process may take to end after its output has.
+AFTER_OUTPUT = 5
 
 
 class Fault(Failed):
@@ -22,22 +24,30 @@ class Fault(Failed):
 
 
 class Processes:
-    """The processes that run. Once all are killed, no other is started."""
+    """The processes that run. Once all are killed, no other is started, and nothing is written."""
 
     def __init__(self):
         self.lock, self.running, self.is_over = threading.Lock(), set(), False
 
     def start(self, command):
         pipes = dict.fromkeys(("stdin", "stdout", "stderr"), subprocess.PIPE)
+
+        def started():
+            process = subprocess.Popen(command, start_new_session=True, bufsize=0, **pipes)
+            self.running.add(process)
+            return process
+
+        try:
+            return self.unless_over(started)
+        except OSError as error:
+            raise Fault(f"{command[0]}: {error.strerror}") from error
+
+    def unless_over(self, action):
+        """Does something of which nothing may be left at the end: what it made by then is known."""
         with self.lock:
             if self.is_over:
                 raise Fault("stopped")
-            try:
-                process = subprocess.Popen(command, start_new_session=True, bufsize=0, **pipes)
-            except OSError as error:
-                raise Fault(f"{command[0]}: {error.strerror}") from error
-            self.running.add(process)
-            return process
+            return action()
 
     def signal(self, process, number):
         """Sends a signal to the group of a process that has not been waited for."""
@@ -77,7 +87,7 @@ def has_ended(process, seconds):
 
 def how_ended(process):
     """How a process has ended, in words."""
-    if not has_ended(process, 1):
+    if not has_ended(process, AFTER_OUTPUT):
         return "closed its output"
     ended = os.waitid(os.P_PID, process.pid, os.WEXITED | os.WNOHANG | os.WNOWAIT)
     if ended.si_code == os.CLD_EXITED:

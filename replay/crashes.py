@@ -1,5 +1,6 @@
 """Finds the message at which a server ends, before it is asked to."""
 
+import time
 from contextlib import suppress
 from dataclasses import dataclass
 
@@ -11,8 +12,9 @@ from messages import Message
 from servers import Ended, TimedOut
 from witness import MOST_LINES
 
-# For how many seconds a server is waited for that is asked nothing.
-PATIENCE = 2
+# For how many seconds a server is waited for that is asked nothing, and for how many times as long as
+# another run took that ended.
+PATIENCE, TIMES = 2, 4
 
 
 @dataclass
@@ -32,8 +34,9 @@ class CrashSearch:
 
     def __init__(self, setting):
         self.setting = setting
-        # Whether a request follows the message, so that all was heard once it is answered.
-        self.asks = True
+        # Whether a request follows the message, so that all was heard once it is answered; and how
+        # long the longest run took that ended, in seconds.
+        self.asks, self.took = True, 0
         # What the last server wrote to standard error in the end.
         self.words = []
 
@@ -64,12 +67,15 @@ class CrashSearch:
         """How a server ends that is sent the log up to a message, or what follows `start`, or None
         if it does not."""
         opened = texts_after(self.setting, start, uris_from(self.setting, start, number, []))
+        begun = time.monotonic()
         with Run(self.setting) as run:
             with suppress(Ended, TimedOut):
                 replaying(number, start, opened)(run)
                 if self.asks:
                     run.hear_all()
-            ends = run.server.has_ended(questions.SHORT_PAUSES[0] if self.asks else PATIENCE)
-            how = run.server.how_ended() if ends else None
+            patience = max(PATIENCE, TIMES * self.took)
+            if not run.server.has_ended(questions.SHORT_PAUSES[0] if self.asks else patience):
+                return None
+            self.took = max(self.took, time.monotonic() - begun)
             self.words = run.server.last_lines(MOST_LINES)
-            return how
+            return run.server.how_ended()

@@ -7,6 +7,7 @@ import shutil
 from pathlib import Path
 from urllib.parse import quote, unquote
 
+from children import PROCESSES
 from messages import encoded, member
 
 # Members that hold a document's text, which stays as it is.
@@ -31,7 +32,7 @@ class Folder:
         """The content of a message that names this folder, which exists from then on."""
         changed = content.replace(f'{self.named}"'.encode(), f'{self.named}{self.number}"'.encode())
         if changed != content:
-            os.makedirs(self.path, 0o700, exist_ok=True)
+            PROCESSES.unless_over(lambda: os.makedirs(self.path, 0o700, exist_ok=True))
         return changed
 
     def remove(self):
@@ -40,10 +41,10 @@ class Folder:
 
 class Folders:
     """The folders to be replaced, each with the one in its place, and an empty one, which each
-    server has for itself."""
+    server has for itself. They are in the folder `place`, with all that is removed at the end."""
 
-    def __init__(self, pairs, empty):
-        self.pairs, self.empty = pairs, empty
+    def __init__(self, pairs, place):
+        self.pairs, self.place, self.empty = pairs, place, os.path.join(place, "empty")
         self.has_found = False
         self.numbers = itertools.count(1)
 

@@ -2,11 +2,12 @@
 
 import json
 import re
+from contextlib import suppress
 from dataclasses import dataclass
 
 from messages import member
 from overwriting import lines_of, units
-from servers import PUBLISHED
+from servers import PUBLISHED, TimedOut
 
 # What the text alone answers, with the capability that offers it.
 OFFERED_BY = {
@@ -38,8 +39,9 @@ FORMATTING = {"tabSize": 4, "insertSpaces": True}
 # since what it finds is asked for at length.
 PAUSES = (1, 2, 4, 8)
 SHORT_PAUSES = (1,)
-# How many seconds diagnostics are waited for.
-PUBLISHING = 1
+# How many seconds diagnostics are waited for once the server has heard all, and how many if it has
+# sent some about this document before.
+PUBLISHING, PUBLISHING_AGAIN = 1, 5
 
 SAME, DIFFERS, NOTHING = "same", "differs", "nothing"
 
@@ -142,7 +144,11 @@ def names_of(value):
 
 
 def published_of(run, uri, version):
-    """The diagnostics of a document, if they can be those of this version."""
-    params = run.server.published_of(run.setting.folders.uri_of(uri), version, PUBLISHING)
+    """The diagnostics of a document, if they can be those of this version. Time is counted from
+    when the server has heard all, however busy it is."""
+    with suppress(TimedOut):
+        run.hear_all()
+    named = run.setting.folders.uri_of(uri)
+    params = run.server.published_of(named, version, PUBLISHING, PUBLISHING_AGAIN)
     found = member(params, "diagnostics")
     return {"error": None} if found is None else {"result": found}

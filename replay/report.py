@@ -2,7 +2,9 @@
 
 import json
 import re
+import threading
 
+from children import PROCESSES, Fault
 from comparison import differing
 from drive import error_of, named, place
 from questions import DIFFERS, NOTHING, VIEW, bare
@@ -18,6 +20,9 @@ OF_PROGRAMS = re.compile(
     "command|cmd|exec|program|script|shell|binary|tool|interpreter|arg|run", re.IGNORECASE
 )
 OF_PATHS = re.compile("[/;|&$`]")
+# Who has it knows that no line is half-written. None begins once the servers were killed: it could
+# say what is wrong of them.
+WRITING = threading.Lock()
 # Of several logs, each is one line: the first that is one of these, in this order.
 DECIDES = ("ends after", "text differs after", "answers differ after", "at-fault",
            "repeated runs disagree after", "no difference in")
@@ -88,7 +93,10 @@ class Report:
         self.put(json.dumps({**head, **members}, ensure_ascii=False, separators=(",", ":")))
 
     def put(self, text):
-        put(text.encode("utf-8", "replace") + b"\n")
+        with WRITING:
+            if PROCESSES.is_over:
+                raise Fault("stopped")
+            put(text.encode("utf-8", "replace") + b"\n")
 
     def end(self, status, why=None):
         """Writes what is left to be said: with the status if there are several logs."""

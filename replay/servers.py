@@ -6,16 +6,18 @@ Nothing waits for a server without a limit: threads of their own write to it and
 import contextlib
 import itertools
 import os
+import select
 import signal
 import threading
+import time
 
 from children import PROCESSES, Fault, has_ended, how_ended, memory_of
 from messages import key_of, notification, request, response, same_name, value_of
-from proxy_log import Feed
+from proxy_log import Feed, is_readable
 from session_log import EDITOR, FIRST_LINE, SERVER, Damaged, Frames, as_records, framed
 
 # How many seconds a server may take to answer `shutdown`, to end after `exit`, and after a signal.
-LAST_ANSWER, AFTER_EXIT, AFTER_SIGNAL = 2, 2, 1
+LAST_ANSWER, AFTER_EXIT, AFTER_SIGNAL = 5, 5, 1
 # How much of its standard error is kept, in bytes, and how many lines are shown at its end.
 MOST_SAID, LINES_SAID = 1 << 16, 5
 PUBLISHED = "textDocument/publishDiagnostics"
@@ -44,10 +46,11 @@ class Server:
         # Whether it ended before it was asked to.
         self.is_lost = False
         self.registered = set()
-        # The last diagnostics of each document, by its URI.
-        self.published = {}
-        # The end of its standard error, and how many bytes it had in all.
-        self.said, self.said_size = b"", 0
+        # The last diagnostics of each document, by its URI, and the documents that ever had some.
+        self.published, self.publishes = {}, set()
+        # The end of its standard error, and how many bytes it had in all. Who has the lock knows
+        # that nothing is read that is not yet here.
+        self.said, self.said_size, self.reading = b"", 0, threading.Lock()
         self.process = PROCESSES.start(command)
         self.feed = Feed(os.dup(self.process.stdin.fileno()), None)
         self.process.stdin.close()
@@ -83,10 +86,27 @@ class Server:
             self.condition.notify_all()
 
     def hear_errors(self):
+        """Reads standard error, until there is no more."""
+        poll = select.poll()
+        poll.register(self.process.stderr.fileno(), select.POLLIN)
         with contextlib.suppress(OSError, ValueError):
-            while data := os.read(self.process.stderr.fileno(), 1 << 16):
-                self.said = (self.said + data)[-MOST_SAID:]
-                self.said_size += len(data)
+            while poll.poll():
+                with self.reading:
+                    data = os.read(self.process.stderr.fileno(), 1 << 16)
+                    self.said = (self.said + data)[-MOST_SAID:]
+                    self.said_size += len(data)
+                if not data:
+                    return
+
+    def catch_up(self):
+        """Waits until all is read that the server has written to standard error by now, unless it
+        writes on and on."""
+        end, errors = time.monotonic() + AFTER_SIGNAL, self.threads[1]
+        while errors.is_alive() and time.monotonic() < end:
+            with self.reading:
+                if not is_readable(self.process.stderr.fileno()):
+                    return
+            errors.join(0.005)
 
     def said_since(self, size):
         """What standard error got after its first bytes, as far as it is kept."""
@@ -97,16 +117,19 @@ class Server:
         with self.condition:
             self.published.pop(same_name(uri), None)
 
-    def published_of(self, uri, version, seconds):
+    def published_of(self, uri, version, seconds, more):
         """The params of the last diagnostics of a document, if they are not older than this version
-        as far as they say; None if there are none in this time."""
+        as far as they say; None if there are none in this time or, if it has had some, in a longer
+        one."""
         def found():
             params = self.published.get(same_name(uri))
             said = params.get("version") if params else None
             return None if isinstance(said, int) and said < version else params
 
+        is_known = same_name(uri) in self.publishes
         with self.condition:
-            self.condition.wait_for(lambda: found() or self.is_over, seconds)
+            is_done = lambda: found() or self.is_over  # noqa: E731
+            self.condition.wait_for(is_done, more if is_known else seconds)
             return found()
 
     def memory(self):
@@ -125,6 +148,7 @@ class Server:
             if method == PUBLISHED and isinstance(message.get("params"), dict):
                 params = message["params"]
                 self.published[same_name(params.get("uri"))] = params
+                self.publishes.add(same_name(params.get("uri")))
                 self.condition.notify_all()
         if method is not None and "id" in message:
             self.register(method, message.get("params"))
@@ -134,7 +158,8 @@ class Server:
     def register(self, method, params):
         """Notes what the server offers later than in its answer to `initialize`."""
         if method == "client/registerCapability" and isinstance(params, dict):
-            for item in params.get("registrations") or []:
+            items = params.get("registrations")
+            for item in items if isinstance(items, list) else ():
                 if isinstance(item, dict):
                     self.registered.add(item.get("method"))
 
@@ -176,7 +201,7 @@ class Server:
 
     def last_lines(self, count):
         """The last lines of standard error."""
-        self.threads[1].join(0.2)
+        self.catch_up()
         return self.said.decode("utf-8", "replace").splitlines()[-count:]
 
     def last_words(self):

@@ -79,10 +79,10 @@ class Transcript:
         return FIRST_LINE + b"".join(kept), count
 
 
-def verdict_of(program, log):
+def verdict_of(setting, log):
     """The first line of lspcheck's report on a log."""
-    with tempfile.NamedTemporaryFile(suffix=".log") as file:
+    with tempfile.NamedTemporaryFile(dir=setting.folders.place, suffix=".log") as file:
         file.write(log)
         file.flush()
-        report = Program(program.path, file.name).output("check")
+        report = Program(setting.program.path, file.name).output("check")
     return report.decode("utf-8", "replace").partition("\n")[0]

@@ -58,6 +58,19 @@ def run(program, log, command, given, folders, report):
             report.say_without(len(left_out))
 
 
+def begin_file(folder, name):
+    """A file that has no name of its own yet."""
+    file = tempfile.NamedTemporaryFile(dir=folder, prefix=f".{name}-", delete=False)
+    unfinished.add(file.name)
+    return file
+
+
+def end_file(file, path, is_good):
+    """Gives a file its name, or removes it."""
+    os.replace(file.name, path) if is_good else os.unlink(file.name)
+    unfinished.discard(file.name)
+
+
 @contextlib.contextmanager
 def written(path):
     """The log that is written to a file; None without one. It gets its name in the end."""
@@ -66,15 +79,13 @@ def written(path):
         return
     folder, name = os.path.split(os.path.abspath(path))
     try:
-        with tempfile.NamedTemporaryFile(dir=folder, prefix=f".{name}-", delete=False) as file:
-            unfinished.add(file.name)
+        with children.PROCESSES.unless_over(lambda: begin_file(folder, name)) as file:
             tape = Tape(file)
             try:
                 yield tape
             finally:
                 file.close()
-                os.replace(file.name, path) if tape.error is None else os.unlink(file.name)
-                unfinished.discard(file.name)
+                children.PROCESSES.unless_over(lambda: end_file(file, path, tape.error is None))
             if tape.error:
                 raise tape.error
     except OSError as error:
@@ -193,11 +204,11 @@ class Trial:
             self.report.say_no_small("repeated runs disagree")
             return
         log, messages = log_of(self.setting, last - count, last, uris, ends)
-        verdict = verdict_of(self.setting.program, log)
+        verdict = verdict_of(self.setting, log)
         if verdict != "yes":
             self.report.say_no_small(f"lspcheck says {verdict}")
             return
-        write(self.given.small, log)
+        children.PROCESSES.unless_over(lambda: write(self.given.small, log))
         self.report.say_small(self.given.small, messages)
 
 

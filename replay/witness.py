@@ -54,5 +54,6 @@ def wait_until_still(server):
     end, size, since = time.monotonic() + MOST_WAITED, server.said_size, time.monotonic()
     while time.monotonic() < min(end, since + STILL):
         time.sleep(STILL / 10)
+        server.catch_up()
         if server.said_size != size:
             size, since = server.said_size, time.monotonic()

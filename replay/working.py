@@ -1,5 +1,5 @@
-"""The work of a command that runs servers: in a thread, so that a signal meets the first one, and leaves
-no server running."""
+"""The work of a command that runs servers: in a thread, so that a signal meets the first one, and
+leaves no server running."""
 
 import os
 import resource
@@ -10,6 +10,8 @@ import threading
 
 import outputs
 from children import PROCESSES
+from program import Failed
+from report import WRITING
 from stops import STOPS, end_by
 
 # What ends such a command, also `^\\` on a terminal. There, no file of its memory is written.
@@ -17,46 +19,79 @@ ENDS = (*STOPS, signal.SIGQUIT)
 # Python handles a signal in its first thread, but the system may give it to another one, which
 # doesn't wake the first. So the first looks after this many seconds.
 LOOK = 0.2
+# For how many seconds a line may be written, and how often a folder is removed, in which something
+# may still be made, before this ends.
+WRITES, REMOVES = 1, 10
 
-# Set once a signal is to end the command: what then becomes of its servers needs no words.
-STOPPING = threading.Event()
+
+def status_of(name, work, folder):
+    """The exit status, after all is written."""
+    try:
+        return work(folder)
+    except SystemExit as unwritten:
+        # Standard output could not be written.
+        return unwritten.code
+    except Exception as error:
+        # A signal has killed the servers, and removed the files.
+        if PROCESSES.is_over:
+            return 2
+        if not isinstance(error, Failed):
+            raise
+        outputs.say(f"{name}: {error}")
+        return error.status if error.status in (2, 3) else 2
 
 
 class Stopped(BaseException):
     """A signal that ends this process."""
 
 
-def stop(number, _frame):
-    raise Stopped(number)
+class Signals:
+    """The first signal that is to end this process is an exception, as long as there is work. One
+    that the caller ignores is none."""
+
+    def __init__(self):
+        self.is_awaited = True
+
+    def stop(self, number, _frame):
+        if self.is_awaited:
+            self.is_awaited = False
+            raise Stopped(number)
+
+    def catch(self):
+        for it in ENDS:
+            if signal.getsignal(it) != signal.SIG_IGN:
+                signal.signal(it, self.stop)
 
 
-def catch():
-    """From now on, these signals are exceptions, except those that the caller ignores."""
-    for it in ENDS:
-        if signal.getsignal(it) != signal.SIG_IGN:
-            signal.signal(it, stop)
+def remove(folder):
+    """Removes a folder, in which something may still be made."""
+    for _ in range(REMOVES):
+        if os.path.exists(folder):
+            shutil.rmtree(folder, ignore_errors=True)
 
 
 def done_in_a_thread(name, work, at_the_end):
-    """Does the work of a command, which is given a folder for its files, and ends with its status. What
-    is left to do at the end is done once no server runs."""
-    result, folder, number = [], None, None
-    thread = threading.Thread(target=lambda: result.append(work(folder)), daemon=True)
+    """Does the work of a command, which is given a folder for its files, and ends with its status.
+    What is left to do at the end is done once no server runs."""
+    result, number, signals = [], None, Signals()
+    done = lambda: result.append(status_of(name, work, folder))  # noqa: E731
+    thread = threading.Thread(target=done, daemon=True)
+    # No signal comes before it is known that there is a folder.
+    mask = signal.pthread_sigmask(signal.SIG_BLOCK, ENDS)
+    folder = tempfile.mkdtemp(prefix=f"{name}-")
     try:
-        catch()
-        folder = tempfile.mkdtemp(prefix=f"{name}-")
+        signals.catch()
+        signal.pthread_sigmask(signal.SIG_SETMASK, mask)
         thread.start()
         while thread.is_alive():
             thread.join(LOOK)
+        signals.is_awaited = False
     except Stopped as stopped:
         number = stopped.args[0]
-        STOPPING.set()
-        for it in ENDS:
-            signal.signal(it, signal.SIG_IGN)
     PROCESSES.kill_all()
+    WRITING.acquire(timeout=WRITES)
     at_the_end()
-    if folder:
-        shutil.rmtree(folder, ignore_errors=True)
+    remove(folder)
     if number is not None:
         outputs.say(f"{name}: stopped by {signal.Signals(number).name}")
         resource.setrlimit(resource.RLIMIT_CORE, (0, resource.getrlimit(resource.RLIMIT_CORE)[1]))

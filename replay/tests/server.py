@@ -21,7 +21,7 @@
   one          takes one change of a message, the first
   defs[=WORD]  has nothing but the names that `def` or `int`, or this word, declare
   complains    publishes these names as diagnostics, and has nothing else  pulls   has them as such if it is asked
-  trails       publishes how each line ends, as diagnostics
+  trails       publishes how each line ends, as diagnostics                lags=S  takes S seconds to set a text
   dies=T       ends at a change to the text T                              wholeless  ignores changes of the whole text
   opens=HOW    takes the text of a didOpen otherwise: as "" (ignored), from the disk, without CR (crlf), up to a NUL
                (nul), without a byte order mark (bom), or composed (nfc)
@@ -41,8 +41,6 @@ import signal
 import sys
 import time
 import unicodedata
-from pathlib import Path
-from urllib.parse import unquote
 
 FAULTS = dict(word.partition("=")[::2] for word in sys.argv[1:])
 UNITS = {"characters": lambda it: 1, "bytes": lambda it: len(it.encode()), "utf-8": lambda it: len(it.encode())}
@@ -137,10 +135,19 @@ def has_come(fault):
         return file.tell() <= int(most)
 
 
+def text_on_disk(uri):
+    """The text of a file, or an empty one. What it needs takes long to import, and tests start many servers."""
+    from pathlib import Path
+    from urllib.parse import unquote
+
+    path = Path(unquote(uri[7:]))
+    return path.read_text() if path.is_file() else ""
+
+
 # How a didOpen is taken otherwise.
 TAKEN = {
     "ignored": lambda uri, text: "",
-    "disk": lambda uri, text: path.read_text() if (path := Path(unquote(uri[7:]))).is_file() else "",
+    "disk": lambda uri, text: text_on_disk(uri),
     "crlf": lambda uri, text: text.replace("\r\n", "\n"),
     "nul": lambda uri, text: text.partition("\0")[0],
     "bom": lambda uri, text: text.lstrip("\ufeff"),
@@ -306,6 +313,7 @@ class Server:
 
     def change(self, text, version, changes):
         self.changes += 1
+        time.sleep(float(FAULTS.get("lags", 0)))
         is_lost = self.changes == int(FAULTS.get("lose", -1)) or "gaps" in FAULTS and version > text.version + 1
         text.version = version
         if "first" in FAULTS and changes and changes[0]["text"] == "b":

@@ -13,8 +13,9 @@ HERE = Path(__file__).resolve().parent
 TOP = HERE.parent.parent
 COMMAND, HASTY = TOP / "replay/lspcheck-replay", HERE / "hasty.py"
 SERVER = [sys.executable, "-IS", HERE / "server.py"]
-# How many trials run at a time.
-WIDTH = 4
+# How many trials run at a time, and after how many seconds one is given up, which starts up to a hundred
+# servers.
+WIDTH, MOST = 4, 10 * SECONDS
 
 DIFFERS = re.compile(r'answers differ after editor (\d+) event (\d+) notification "textDocument/did\w+"')
 # How many questions the server of the tests is asked about a document: three, and these once the lines are
@@ -26,7 +27,7 @@ def run(program, log, *faults, options=(), command=HASTY, server=SERVER, **how):
     """Runs the command on a log with the server of the tests."""
     patience = [] if "--wait" in options else ["--wait", SECONDS]
     words = [sys.executable, command, "--program", program, *patience, *options, log, *server, *faults]
-    how = {"capture_output": True, "text": True, "timeout": SECONDS, **how}
+    how = {"capture_output": True, "text": True, "timeout": MOST, **how}
     return subprocess.run([str(it) for it in words], **how)
 
 
