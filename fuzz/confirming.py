@@ -64,7 +64,7 @@ class Confirming:
             if ends:
                 run.server.has_ended(setting.wait)
         log, messages = transcript.log()
-        if verdict_of(setting.program, log) != "yes":
+        if verdict_of(setting, log) != "yes":
             # The server breaks a rule itself: its answers are left out.
             log, messages = self.greeting.log(sent), len(sent) + 2
         return Shown(case, sent, log, messages)

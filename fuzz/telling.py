@@ -6,6 +6,7 @@ import sys
 import time
 
 import outputs
+from children import PROCESSES
 from hunt import Hunt
 from messages import member, value_of
 from program import Failed
@@ -83,7 +84,7 @@ class Telling:
 
     def write(self, log, messages):
         path = numbered(self.given.small, len(self.files) + 1)
-        write(path, log)
+        PROCESSES.unless_over(lambda: write(path, log))
         self.files.append(path)
         self.report.line("small", quoted(path), messages, "messages", file=path, messages=messages)
 
@@ -115,10 +116,13 @@ class Telling:
     def last(self):
         """Writes the log of what was being looked into when a signal ended the hunt."""
         best = self.hunting and self.hunting.best
-        if not best or not self.given.small:
+        if not best or not self.given.small or not PROCESSES.is_over:
             return
         confirming, case = best
+        path = numbered(self.given.small, len(self.files) + 1)
         try:
-            self.write(confirming.unfinished(case), len(case.steps))
+            write(path, confirming.unfinished(case))
+            outputs.say(f"lspcheck-fuzz: {quoted(path)} is the smallest session so far, not yet "
+                        "shown to a fresh server")
         except Failed as failed:
             outputs.say(f"lspcheck-fuzz: {failed}")

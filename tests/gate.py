@@ -40,6 +40,7 @@ GATE = [
     f"tests/of_checks {ANY}",
     f"page/run {PROVED}",
     f"replay/run {ANY}",
+    f"fuzz/run {ANY}",
     f"tests/golden/run {PROVED}",
     f"tests/cli/run {PROVED}",
     f"tests/shrink/run {PROVED}",

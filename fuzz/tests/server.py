@@ -45,16 +45,13 @@ class Lost(Exception):
     """A change that is not made, or a document that is dropped."""
 
 
-def width(character, encoding):
-    if "characters" in FAULTS:
-        return 1
-    if "bytes" in FAULTS:
-        return len(character.encode())
-    if "units" in FAULTS:
-        return len(character.encode("utf-16-le")) // 2
-    return len(character.encode(encoding.replace("16", "16-le").replace("32", "32-le"))) // (
-        {"utf-8": 1, "utf-16": 2, "utf-32": 4}[encoding]
-    )
+# How a text is encoded, and how many bytes a column then has.
+ENCODED = {"utf-8": ("utf-8", 1), "utf-16": ("utf-16-le", 2), "utf-32": ("utf-32-le", 4)}
+COUNTED = {"characters": "utf-32", "bytes": "utf-8", "units": "utf-16"}
+
+
+def counted(encoding):
+    return ENCODED[next((COUNTED[it] for it in COUNTED if it in FAULTS), encoding)]
 
 
 def line_ends():
@@ -70,14 +67,13 @@ LINE_END = re.compile(line_ends())
 
 
 def walked(text, at, end, column, encoding):
-    """Where one is after this many columns, but not past an end, and how many are left."""
-    if text.isascii():
-        size = min(column, end - at)
-        return at + size, column - size
-    while column > 0 and at < end:
-        column -= width(text[at], encoding)
-        at += 1
-    return at, column
+    """Where one is after this many columns, but not past an end, and how many are left. What a column
+    cuts is passed."""
+    name, size = counted(encoding)
+    encoded = text[at:end].encode(name)
+    passed = len(encoded[: size * column].decode(name, "ignore"))
+    is_cut = len(text[at : at + passed].encode(name)) < min(size * column, len(encoded))
+    return at + passed + is_cut, column - len(encoded) // size
 
 
 class Document:
