@@ -1,7 +1,7 @@
 """Sessions as they are made, sent and cut down: texts, and steps that change them.
 
-An edit says what of the right text it replaces, in characters. So what is left of a case, whatever is
-cut away, can be said in legal messages.
+An edit says what of the right text it replaces, in characters. So what is left of a case, whatever
+is cut away, can be said in legal messages.
 """
 
 import re
@@ -11,15 +11,17 @@ from messages import changed, notification, opened, request
 from overwriting import units
 
 LINE_END = re.compile("\r\n|\r|\n")
-# A request that leaves every text as it is, and the first id of these: those of questions are lower.
+# A request that leaves every text as it is, and the first id of these: those of questions are
+# lower.
 ASKED, FIRST_ID = "textDocument/documentSymbol", 1_000_000
 
 
 @dataclass(frozen=True)
 class Edit:
-    """A change: which characters it replaces, from `start` to `end`, and by what. Without a start, it
-    gives the whole text. Its range is said to end `past` columns after the end of a line, or `lines`
-    after the last one, where its `end` is there; and it starts there, too, if it starts there."""
+    """A change: which characters it replaces, from `start` to `end`, and by what. Without a start,
+    it gives the whole text. Its range is said to end `past` columns after the end of a line, or
+    `lines` after the last one, where its `end` is there; and it starts there, too, if it starts
+    there."""
 
     start: int
     end: int
@@ -29,22 +31,26 @@ class Edit:
     has_length: bool = False
 
     def fitted(self, text):
-        """The same edit in a text, perhaps a shorter one than it was made for: no end of it is within
-        a CR LF."""
+        """The same edit in a text, perhaps a shorter one than it was made for: no end of it is
+        within a CR LF."""
         if self.start is None:
             return self
-        start, end = (outside_of_line_end(text, min(it, len(text))) for it in (self.start, self.end))
+        places = (min(it, len(text)) for it in (self.start, self.end))
+        start, end = (outside_of_line_end(text, it) for it in places)
         return replace(self, start=start, end=max(start, end))
 
     def applied(self, text):
         """The text after this edit, which fits it."""
-        return self.text if self.start is None else text[: self.start] + self.text + text[self.end :]
+        if self.start is None:
+            return self.text
+        return text[: self.start] + self.text + text[self.end :]
 
 
 @dataclass(frozen=True)
 class Step:
     """What an editor does with a document: it changes it in one message, whose version leaves out
-    `skipped` ones, perhaps while a request `is_asked`; or closes it and opens it with another text."""
+    `skipped` ones, perhaps while a request `is_asked`; or closes it and opens it with another
+    text."""
 
     document: int
     edits: tuple = ()
@@ -55,13 +61,21 @@ class Step:
 
 @dataclass(frozen=True)
 class Case:
-    """The texts with which the documents are opened, and the steps. The first document is the one that
-    is asked about. If it is opened `by_change`, it is empty at first, and a change without a range
-    gives it its text."""
+    """The texts with which the documents are opened, and the steps. The first document is the one
+    that is asked about. If it is opened `by_change`, it is empty at first, and a change without a
+    range gives it its text."""
 
     texts: tuple
     steps: tuple = ()
     by_change: bool = False
+
+    def mapped(self, change):
+        """The same case with another text in place of each."""
+        steps = tuple(
+            replace(it, edits=tuple(replace(edit, text=change(edit.text)) for edit in it.edits))
+            for it in self.steps
+        )
+        return replace(self, texts=tuple(map(change, self.texts)), steps=steps)
 
 
 @dataclass(frozen=True)
@@ -156,7 +170,8 @@ class Editor:
 
 
 def text_before(case, number):
-    """The right text of the first document before a step, and after all if there is no such step."""
+    """The right text of the first document before a step, and after all if there is no such
+    step."""
     text = case.texts[0]
     for step in case.steps[:number]:
         if step.document == 0:

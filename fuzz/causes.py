@@ -1,7 +1,7 @@
-"""Which wrong store explains what a server answers: fresh documents are given the texts that each store
-would hold, and asked the same."""
+"""Which wrong store explains what a server answers: fresh documents are given the texts that each
+store would hold, and asked the same."""
 
-from dataclasses import dataclass, replace
+from dataclasses import dataclass
 
 from features import SEPARATORS
 from live import unlike
@@ -55,8 +55,8 @@ class Explaining:
         return sorted(found, key=stores.index)
 
     def texts_of(self, case, stores):
-        """The wrong texts that stores would hold, before the lines are overwritten and after, each with
-        its stores."""
+        """The wrong texts that stores would hold, before the lines are overwritten and after, each
+        with its stores."""
         document, sent = self.live.play(case)
         self.live.answers([document], overwrites=False)
         contents, found = [it.content for it in sent], {}
@@ -69,20 +69,26 @@ class Explaining:
         return found
 
     def answers_to(self, texts):
-        """What is answered where a document has these texts, or none, before the lines are overwritten
-        and after."""
-        before, after = (
-            self.live.answers_without_text() if it is None else self.live.answers_to_text(it, self.by_change)
-            for it in texts
-        )
+        """What is answered where a document has these texts, or none, before the lines are
+        overwritten and after."""
+        before, after = map(self.answers_to_text, texts)
         late = {(method, True): answer for (method, _), answer in after.items()}
         return {**before, **late}
+
+    def answers_to_text(self, text):
+        if text is None:
+            return self.live.answers_without_text()
+        return self.live.answers_to_text(text, self.by_change)
 
     def separators(self, case, name):
         """Each character that ends a line, if the one in this case does."""
         own = SEPARATING[name]
-        found = [it for it in SEPARATORS if it == own or self.live.differing(exchanged(case, own, it))]
-        return f"{', '.join(SEPARATORS[it] for it in found)} {'end' if found[1:] else 'ends'} a line"
+
+        def ends(other):
+            return self.live.differing(case.mapped(lambda it: it.replace(own, other)))
+
+        found = [SEPARATORS[it] for it in SEPARATORS if it == own or ends(it)]
+        return f"{', '.join(found)} {'end' if found[1:] else 'ends'} a line"
 
 
 SEPARATING = {f"{name} ends a line": it for it, name in SEPARATORS.items()}
@@ -90,12 +96,3 @@ SEPARATING = {f"{name} ends a line": it for it, name in SEPARATORS.items()}
 
 def names_of(stores):
     return tuple(dict.fromkeys(it.name for it in stores))
-
-
-def exchanged(case, old, new):
-    """A case with another character."""
-    steps = tuple(
-        replace(it, edits=tuple(replace(edit, text=edit.text.replace(old, new)) for edit in it.edits))
-        for it in case.steps
-    )
-    return replace(case, texts=tuple(it.replace(old, new) for it in case.texts), steps=steps)

@@ -16,8 +16,8 @@ PAUSES = (0.5, 1, 2)
 
 @dataclass(frozen=True)
 class Shown:
-    """A case that fresh servers have shown: its messages, the log of a session with it, and how many
-    messages the editor sends there."""
+    """A case that fresh servers have shown: its messages, the log of a session with it, and how
+    many messages the editor sends there."""
 
     case: Case
     sent: list
@@ -44,7 +44,8 @@ class Confirming:
     def shown(self, case):
         """The case as fresh servers show it, or None if they don't."""
         uri, sent, setting = self.session(case)
-        questions, faults = Comparison(setting, PAUSES, False).with_faults(len(setting.recording.messages), [uri])
+        comparison, last = Comparison(setting, PAUSES, False), len(setting.recording.messages)
+        questions, faults = comparison.with_faults(last, [uri])
         fault = faults.get(uri)
         if fault and fault.at_fault == CHANGED and not differing(questions) and not case.by_change:
             # What is at fault is the change that the other fresh server got.

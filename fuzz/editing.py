@@ -5,7 +5,8 @@ import random
 from cases import LINE_END, Case, Edit, Step, outside_of_line_end
 from features import ASTRAL, COMBINING, SEPARATORS
 
-WORDS = ["x", "ab", " ", "  ", "a1", "name", "f(x)", "(", ")", "{ }", '"s"', "// c", "# c", "1 + 2", "\t", ";", "z_9"]
+WORDS = ["x", "ab", "a1", "name", "z_9", "f(x)", "(", ")", "{ }", '"s"', "// c", "# c", "1 + 2"]
+WORDS += [" ", "  ", "\t", ";"]
 # How long a long line is, how many lines a text begins with, and how many steps a session has.
 LONG_LINES = (*[300] * 6, *[1100] * 6, *[5000] * 3, 70_000)
 LINES, STEPS, BURST = (3, 9), (4, 20), (40, 120)
@@ -80,7 +81,8 @@ class Random:
         return feature in self.features and self.chance.random() < probability
 
     def text(self):
-        """The text that a document begins with, of which the first line end is one of this session."""
+        """The text that a document begins with, of which the first line end is one of this
+        session."""
         if self.start is None:
             return self.made.text()
         return "".join(line + self.made.end() for line in LINE_END.split(self.start))
@@ -155,8 +157,8 @@ class Random:
         return self.has("typing", 1.0 if start == end and len(text) <= LARGE else 0.4)
 
     def place(self, text, start=None):
-        """A place in a text: anywhere or, after `start`, close to it. No place is in a CR LF, nor after
-        the last line end where that must stay."""
+        """A place in a text: anywhere or, after `start`, close to it. No place is in a CR LF, nor
+        after the last line end where that must stay."""
         last = len(text)
         if "no-last-end" not in self.features and text.endswith(("\r", "\n")):
             last -= len(LINE_END.findall(text)[-1])

@@ -15,8 +15,8 @@ from sending import choose
 from servers import Tape
 from session_log import EDITOR, FIRST_LINE, SERVER, SNAPSHOT, Record, as_records, framed
 
-# The name of each kind of file, by its language; the language that a server is for, by its name; and
-# both are asked for where they are not known.
+# The name of each kind of file, by its language; the language that a server is for, by its name;
+# and both are asked for where they are not known.
 ENDINGS = {
     "c": ".c", "cpp": ".cpp", "css": ".css", "fortran": ".f90", "go": ".go", "html": ".html",
     "java": ".java", "javascript": ".js", "json": ".json", "latex": ".tex", "lua": ".lua",
@@ -81,17 +81,18 @@ def greeting(root, encodings):
 
 
 class Greeting:
-    """What a server and an editor say first, and agree on: the log of that, and of sessions that begin
-    with it."""
+    """What a server and an editor say first, and agree on: the log of that, and of sessions that
+    begin with it."""
 
     def __init__(self, workshop, encodings):
         self.workshop = workshop
         asked = request(1, "initialize", greeting(workshop.root, encodings))
         answer = workshop.first_answer(asked)
         if "error" in answer:
-            raise Fault(f"{os.path.basename(workshop.command[0])} answers initialize with {error_of(answer)}")
+            raise Fault(f"{workshop.name} answers initialize with {error_of(answer)}")
         self.encoding = encoding_of(answer)
-        first = [(EDITOR, asked), (SERVER, encoded(answer)), (EDITOR, notification("initialized", {}))]
+        greeted = notification("initialized", {})
+        first = [(EDITOR, asked), (SERVER, encoded(answer)), (EDITOR, greeted)]
         self.head = FIRST_LINE + b"".join(
             record for kind, content in first for record in as_records(kind, framed(content))
         )
@@ -111,7 +112,8 @@ class Greeting:
         return self.workshop.setting_of(self.log(sent))
 
     def log(self, sent):
-        """The log of a session with these messages, each with a snapshot of the text that it sets."""
+        """The log of a session with these messages, each with a snapshot of the text that it
+        sets."""
         return self.head + b"".join(records_of(sent))
 
 
@@ -127,17 +129,24 @@ def snapshot(uri, version, text):
 
 
 class Workshop:
-    """What all sessions with a server have in common: its command, how long it may take, and the folder
-    for their files."""
+    """What all sessions with a server have in common: its command, how long it may take, and the
+    folder for their files."""
 
     def __init__(self, program, command, root, folders, folder, wait, jobs):
         self.program, self.command, self.root, self.folders = program, command, root, folders
         self.folder, self.wait, self.jobs = folder, wait, jobs
 
+    @property
+    def name(self):
+        """The name of the server."""
+        return os.path.basename(self.command[0])
+
+    def setting(self, program, recording):
+        return Setting(program, recording, self.command, self.wait, self.folders, self.jobs)
+
     def first_answer(self, asked):
         """How the server answers `initialize`."""
-        setting = Setting(None, Recording(free_id=2), self.command, self.wait, self.folders, self.jobs)
-        with Run(setting) as run:
+        with Run(self.setting(None, Recording(free_id=2))) as run:
             content = run.folder.put_into(asked)
             run.server.ask("1", content, True)
             answer = run.server.wait("1", self.wait)
@@ -166,7 +175,7 @@ class Workshop:
         program = Program(self.program, path)
         recording = read(program)
         choose(recording, self.folders, True)
-        return Setting(program, recording, self.command, self.wait, self.folders, self.jobs)
+        return self.setting(program, recording)
 
     def check_yes(self, path):
         """Fails if a session that is sent breaks a rule: then nothing that it shows counts."""

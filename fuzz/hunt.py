@@ -28,6 +28,7 @@ AGAIN = (0.05, 0.3)
 # The other encodings that are offered first.
 OFFERED = (["utf-8", "utf-16"], ["utf-32", "utf-16"])
 UTF_16 = "utf-16"
+NO_QUESTIONS = "the server offers none of the questions that the text alone answers"
 
 
 @dataclass(frozen=True)
@@ -113,9 +114,10 @@ class Hunt:
         self.sessions += 1
         number, seed = self.sessions, f"{self.seed} session {self.sessions}"
         case = Random(seed, features, self.form, self.start, greeting.takes_ranges).case()
-        # The right text comes in a didOpen or in a change, in turns; and some servers get the time to
-        # work on each message.
-        by_change, is_slow = number % 2 == 1 and self.is_change_right, number % 3 == 2 and "bursts" not in features
+        # The right text comes in a didOpen or in a change, in turns; and some servers get the time
+        # to work on each message.
+        by_change = number % 2 == 1 and self.is_change_right
+        is_slow = number % 3 == 2 and "bursts" not in features
         live = self.live_with(greeting)
         self.edits += edits_of(case)
         try:
@@ -150,14 +152,15 @@ class Hunt:
             self.live = live.__enter__()
             text = Random(self.seed, PLAIN, self.form, self.start).text()
             if not live.calibrate(text):
-                raise Failed("the server offers none of the questions that the text alone answers", 2)
+                raise Failed(NO_QUESTIONS, 2)
             self.is_one_by_one = live.is_one_by_one
         return self.live
 
     def look_into(self, whole, by_change, differing, number, note):
         """Cuts a case down, explains it, and shows it to fresh servers."""
         live, greeting = self.live, self.live.greeting
-        confirming, at_fault = Confirming(greeting, self.language), live.case_at_fault(text_before(whole, None))
+        confirming = Confirming(greeting, self.language)
+        at_fault = live.case_at_fault(text_before(whole, None))
         if at_fault:
             whole, by_change, differing = at_fault, not at_fault.by_change, None
         # The names see most, so that no more need be asked.
@@ -203,8 +206,8 @@ class Hunt:
         return "encodings" if is_of_encoding else first
 
     def take(self, found, note):
-        """Takes a drift: what follows leaves its feature out. What a plain feature shows is in every
-        session."""
+        """Takes a drift: what follows leaves its feature out. What a plain feature shows is in
+        every session."""
         self.found.append(found)
         self.is_change_right = self.is_change_right and not found.shown.case.by_change
         self.known.add((found.feature, found.cause))

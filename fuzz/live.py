@@ -1,5 +1,5 @@
-"""A server in which many cases are played, each in documents of its own, and compared with documents
-that are given the right text."""
+"""A server in which many cases are played, each in documents of its own, and compared with
+documents that are given the right text."""
 
 import json
 import time
@@ -45,8 +45,8 @@ def unlike(answers, others):
 
 
 class Live:
-    """A server that runs. It is used as a context, which ends it, and checks the log of all that it was
-    sent."""
+    """A server that runs. It is used as a context, which ends it, and checks the log of all that it
+    was sent."""
 
     def __init__(self, greeting, language, form, is_one_by_one=False):
         self.greeting, self.language, self.form = greeting, language, form
@@ -110,7 +110,8 @@ class Live:
     def answers(self, documents, pauses=(), overwrites=True, only=None):
         """For each document, the last answer to each question, or to some alone. Then all are
         closed."""
-        asking, found = Asking(self.greeting.setting, documents, Plan()), {it.uri: {} for it in documents}
+        asking = Asking(self.greeting.setting, documents, Plan())
+        found = {it.uri: {} for it in documents}
         keys = [it for it in asking.asked(self.run) if self.is_asked(it, only)]
         self.hear(found, documents, [it for it in keys if not it.is_overwritten], pauses)
         later = [it for it in keys if it.is_overwritten and overwrites]
@@ -135,7 +136,8 @@ class Live:
                 params = params_of(key.method, key.uri, text, self.greeting.encoding)
                 server.ask(id, request(int(id), key.method, params), True)
             for id, key in zip(ids, keys):
-                found[key.uri][key.method, key.is_overwritten] = without_uri(self.answer(id, key), key.uri)
+                answer = without_uri(self.answer(id, key), key.uri)
+                found[key.uri][key.method, key.is_overwritten] = answer
         self.asked += len(keys)
 
     def answer(self, id, key):
@@ -156,16 +158,16 @@ class Live:
         self.send(Sent(notification("textDocument/didClose", document), uri))
 
     def differing(self, case, by_change=False, pauses=(), is_slow=False, only=None):
-        """The questions, perhaps of some alone, that a document is answered otherwise, once a case was played, than one that is
-        given the right text at once: by a didOpen or by a change."""
+        """The questions, perhaps of some alone, that a document is answered otherwise, once a case
+        was played, than one that is given the right text at once: by a didOpen or by a change."""
         document, _ = self.play(case, is_slow)
         control, _ = self.play(Case((document.text,), (), by_change))
         one, other = self.answers([document, control], pauses, only=only)
         return unlike(one, other)
 
     def case_at_fault(self, text):
-        """The case of a didOpen of this text, or of a change to it without a range, if one of them is
-        at fault: documents that got the text in these two ways then answer otherwise."""
+        """The case of a didOpen of this text, or of a change to it without a range, if one of them
+        is at fault: documents that got the text in these two ways then answer otherwise."""
         told, other = (self.play(Case((text,), (), it))[0] for it in (False, True))
         opened, changed = self.answers([told, other])
         differing = unlike(opened, changed)

@@ -16,6 +16,7 @@ class Plan:
 
     def __init__(self, seed, chosen):
         self.seed, self.chosen = seed, set(chosen)
+        self.had_special = bool(self.special)
         self.round, self.queue = 0, deque()
 
     def leave_out(self, feature):
@@ -27,8 +28,8 @@ class Plan:
         return [it for it in FEATURES if it in self.chosen and it not in PLAIN]
 
     def is_over(self):
-        """Whether no session can show anything new."""
-        return not self.chosen
+        """Whether no session can show anything new: the plain features were in all that was sent."""
+        return not self.chosen or self.had_special and not self.special
 
     def next(self):
         """The features of the next session."""

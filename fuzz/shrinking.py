@@ -1,4 +1,5 @@
-"""Cuts a case down: fewer steps, then less of the text before them, then less of the change itself."""
+"""Cuts a case down: fewer steps, then less of the text before them, then less of the change
+itself."""
 
 from dataclasses import replace
 
@@ -56,7 +57,7 @@ class Shrinking:
         """Has lines of one kind, unless it takes several."""
         self.left = max(self.left, len(ENDS))
         if len({end for text in self.case.texts for end in LINE_END.findall(text)}) > 1:
-            any(self.keep(with_ends(self.case, end)) for end in ENDS)
+            any(self.keep(self.case.mapped(lambda it: LINE_END.sub(end, it))) for end in ENDS)
 
     def shorten(self):
         """The fewest last steps, after the right text before them."""
@@ -100,9 +101,8 @@ class Shrinking:
         while is_better and place < len(self.case.steps[number].edits):
             step = self.case.steps[number]
             others = simpler_edits(step.edits[place])
-            is_better = any(
-                self.keep_step(number, replace(step, edits=put(step.edits, place, it))) for it in others
-            )
+            others = (replace(step, edits=put(step.edits, place, it)) for it in others)
+            is_better = any(self.keep_step(number, it) for it in others)
 
     def drop_text(self, number):
         """Lines of a text, then characters, by halves, quarters and so on."""
@@ -143,16 +143,6 @@ def tail(case, count):
     return replace(case, texts=(text_before(case, at),), steps=case.steps[at:])
 
 
-def with_ends(case, end):
-    """A case all of whose texts have lines that end alike."""
-    texts = tuple(LINE_END.sub(end, text) for text in case.texts)
-    steps = tuple(
-        replace(it, edits=tuple(replace(edit, text=LINE_END.sub(end, edit.text)) for edit in it.edits))
-        for it in case.steps
-    )
-    return replace(case, texts=texts, steps=steps)
-
-
 def put(items, place, item):
     return (*items[:place], item, *items[place + 1 :])
 
@@ -172,8 +162,10 @@ def moved(edit, start, end):
     """An edit of a text of which a part is gone."""
     if edit.start is None:
         return edit
-    places = (it if it <= start else max(start, it - (end - start)) for it in (edit.start, edit.end))
-    return replace(edit, **dict(zip(("start", "end"), places)))
+    def place(at):
+        return at if at <= start else max(start, at - (end - start))
+
+    return replace(edit, start=place(edit.start), end=place(edit.end))
 
 
 def simpler_steps(step):
@@ -185,7 +177,8 @@ def simpler_steps(step):
         yield replace(step, edits=step.edits[:place] + step.edits[place + 1 :])
     if step.reopened:
         half = len(step.reopened) // 2
-        yield from (replace(step, reopened=it) for it in ("", step.reopened[:half], step.reopened[half:]))
+        texts = ("", step.reopened[:half], step.reopened[half:])
+        yield from (replace(step, reopened=it) for it in texts)
 
 
 def simpler_edits(edit):
@@ -204,6 +197,7 @@ def simpler_edits(edit):
                     if middle not in (edit.start, edit.end))
         yield replace(edit, start=edit.end)
     half = len(edit.text) // 2
-    shorter = [it for it in ("", "x", edit.text[:half], edit.text[half:]) if len(it) < len(edit.text)]
+    texts = ("", "x", edit.text[:half], edit.text[half:])
+    shorter = [it for it in texts if len(it) < len(edit.text)]
     others = ["x"] if len(edit.text) == 1 and edit.text != "x" else []
     yield from (replace(edit, text=it) for it in (*shorter, *others))

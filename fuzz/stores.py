@@ -1,5 +1,5 @@
-"""What a server holds that takes messages otherwise than LSP says: the wrong stores, one of which may
-explain its answers."""
+"""What a server holds that takes messages otherwise than LSP says: the wrong stores, one of which
+may explain its answers."""
 
 import itertools
 import json
@@ -28,13 +28,13 @@ class Store:
     """A store, by what is wrong with it. Changes and messages are chosen by functions."""
 
     name: str = None
-    # How columns are counted, or None for the encoding that was agreed on; what ends a line; and how
-    # a position past the end of its line or of the text is taken.
+    # How columns are counted, or None for the encoding that was agreed on; what ends a line; and
+    # how a position past the end of its line or of the text is taken.
     encoding: str = None
     ends: str = LINE_ENDS
     past: int = AS_END
-    # What becomes of the text of a didOpen, of that of a change, of all changes of a message, and of
-    # a range.
+    # What becomes of the text of a didOpen, of that of a change, of all changes of a message, and
+    # of a range.
     opened: object = as_sent
     typed: object = as_sent
     changes: object = as_sent

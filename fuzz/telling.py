@@ -71,13 +71,13 @@ class Telling:
         words = [part for text in before for part in ("text", shown_text(text))]
         words += [part for it in changes[:3] for part in ("change", shown_change(it))]
         words += [".."] if len(changes) > 3 else []
-        words += ["right", shown_text(last[-1].text), "seed", self.hunting.seed, "session", found.session,
-                  "edits", found.edits]
-        self.report.line(f"drift {found.feature}:", f"{found.cause};", *words, **{
-            "feature": found.feature, "causes": list(found.cause.names), "text": before[0] if before else None,
-            "method": value["method"], "changes": changes, "right": last[-1].text,
-            "messages": found.shown.messages, "seed": self.hunting.seed, "session": found.session,
-            "edits": found.edits,
+        counts = {"seed": self.hunting.seed, "session": found.session, "edits": found.edits}
+        words += ["right", shown_text(last[-1].text)]
+        words += [word for it in counts.items() for word in it]
+        self.report.line("drift", f"{found.feature}:", f"{found.cause};", *words, **{
+            "feature": found.feature, "causes": list(found.cause.names),
+            "text": before[0] if before else None, "method": value["method"], "changes": changes,
+            "right": last[-1].text, "messages": found.shown.messages, **counts,
         })
         if self.given.small:
             self.write(found.shown.log, found.shown.messages)
@@ -106,7 +106,8 @@ class Telling:
         for why in hunt.failures:
             self.report.line("server failed:", json.dumps(why), why=why)
         if hunt.verdict not in (None, "yes"):
-            self.report.line("lspcheck says", json.dumps(hunt.verdict), "of the server", verdict=hunt.verdict)
+            said = json.dumps(hunt.verdict)
+            self.report.line("lspcheck says", said, "of the server", verdict=hunt.verdict)
         counts = {"sessions": hunt.sessions, "edits": hunt.edits, "answers": hunt.questions,
                   "unconfirmed": hunt.unconfirmed}
         words = [word for it in counts.items() for word in it]

@@ -1,4 +1,5 @@
-"""What lspcheck-page, lspcheck-replay and lspcheck-fuzz do alike: arguments, the log, and what they write."""
+"""What lspcheck-page, lspcheck-replay and lspcheck-fuzz do alike: arguments, the log, and what they
+write."""
 
 import argparse
 import json

@@ -1,6 +1,6 @@
 """Each fault of a server is found, with its feature and its cause; and the small case shows it again."""
 
-from hunts import check, drifts, replayed, side_by_side, until_found
+from hunts import check, drifts, objects_of, replayed, run_longer, side_by_side, until_found
 
 # The faults of the server; the features of which one names the drift; and its cause.
 FAULTS = [
@@ -64,11 +64,22 @@ def finds_each_fault_with_other_seeds(program, place):
 
 def finds_one_behind_the_other(program, place):
     """A known fault hides no other."""
-    objects = until_found(program, "characters", "cr", "past=next", count=3)
+    small = place / "small.log"
+    objects = until_found(program, "characters", "cr", "past=next", count=3, options=["--small", small])
+    names = [small, place / "small-2.log", place / "small-3.log"]
+    assert [it["file"] for it in objects if it["is"] == "small"] == list(map(str, names)), objects
     found = sorted((it["feature"], *it["causes"]) for it in drifts(objects))
     wanted = [("astral", "counts characters"), ("cr", "a lone CR ends no line"), ("past-end", "runs into the next line")]
     assert found == wanted, found
 
 
-TESTS = [finds_each_fault, finds_one_behind_the_other]
+def counts_only_what_fresh_servers_show(program, place):
+    """A change that goes to the document that was opened last: that needs a second document."""
+    options = ["--json", "--without", "two,reopening"]
+    done = run_longer(program, "other", options=options, is_wanted=lambda it: '"unconfirmed":0' not in it.stdout)
+    total = objects_of(done)[-2]
+    assert done.returncode == 0 and total["drifts"] == 0 and total["unconfirmed"] > 0, done
+
+
+TESTS = [finds_each_fault, finds_one_behind_the_other, counts_only_what_fresh_servers_show]
 LONG_TESTS = [finds_each_fault_with_other_seeds]

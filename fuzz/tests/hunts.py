@@ -18,19 +18,21 @@ SERVER = [sys.executable, "-IS", HERE / "server.py"]
 WIDTH = 4
 
 
-def words_of(program, *faults, options=(), command=HASTY, server=SERVER, seed=1):
+def words_of(program, *faults, options=(), command=HASTY, server=SERVER, seed=1, language="c"):
     """The command line of a hunt with the server of the tests."""
-    chosen = [] if "--language" in options or "--start" in options else ["--language", "c"]
+    chosen = ["--language", language] if language and "--start" not in options else []
     patience = [] if "--wait" in options else ["--wait", SECONDS]
     seeds = ["--seed", seed] if seed else []
     words = [sys.executable, command, "--program", program, *chosen, *patience, *seeds, *options]
     return [str(it) for it in (*words, *server, *faults)]
 
 
-def run(program, *faults, options=(), command=HASTY, server=SERVER, seed=1, **how):
+def run(program, *faults, options=(), command=HASTY, server=SERVER, seed=1, language="c", **how):
     """A hunt to its end."""
     how = {"capture_output": True, "text": True, "timeout": SECONDS, **how}
-    words = words_of(program, *faults, options=options, command=command, server=server, seed=seed)
+    words = words_of(
+        program, *faults, options=options, command=command, server=server, seed=seed, language=language
+    )
     return subprocess.run(words, **how)
 
 

@@ -36,7 +36,7 @@ import time
 import unicodedata
 
 FAULTS = dict(word.partition("=")[::2] for word in sys.argv[1:])
-DECLARED = re.compile(r"\bint (\w+)\s*;")
+DECLARED = re.compile(r"\bint (\w+)\s*;|^(\w+) = 0$")
 OFFERS = {"documentSymbolProvider": True, "foldingRangeProvider": True}
 PYTHON = "\v\f\x1c\x1d\x1e\x85\u2028\u2029"
 
@@ -144,9 +144,9 @@ def symbols(text):
     """What is declared, by lines and columns of whatever kind."""
     for number, line in enumerate(re.split("\r\n|\n|\r", text)):
         for found in DECLARED.finditer(line):
-            places = [{"line": number, "character": it} for it in found.span(1)]
+            places = [{"line": number, "character": it} for it in found.span(1 if found[1] else 2)]
             place = dict(zip(("start", "end"), places))
-            yield {"name": found[1], "kind": 13, "range": place, "selectionRange": place}
+            yield {"name": found[1] or found[2], "kind": 13, "range": place, "selectionRange": place}
 
 
 ANSWERS = {"textDocument/documentSymbol": symbols, "textDocument/foldingRange": folds}

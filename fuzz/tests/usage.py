@@ -8,7 +8,7 @@ import subprocess
 import sys
 
 from hunts import COMMAND, TOP, check, objects_of, replayed, run, run_longer, until_found, words_of
-from processes import SECONDS, SIGNALS, is_running, until, with_signals
+from processes import SECONDS, SIGNALS, is_running, quoted, until, with_signals
 
 
 def refuses(done, status, words):
@@ -29,7 +29,7 @@ def answers_bad_arguments(program, place):
         (["--only", "cr", "--without", "cr,typing,deleting"], "--without leaves no feature"),
         (["--folder", place / "none"], "none is not a folder"),
         (["--small", "-"], "- is not a file to write: standard output has the report"),
-        (["--start", place / "a.bogus"], "a.bogus is not known: give --language"),
+        (["--start", "a.bogus"], "a.bogus is not known: give --language"),
         # No option may be cut short, so that a later one can't change what a script means.
         (["--smal", place / "x"], "--smal"),
     ]:
@@ -59,6 +59,21 @@ def says_why_nothing_can_be_said(program, place):
     refuses(run(program, server=["true"]), 2, "true ended with status 0")
     refuses(run("/no/such/lspcheck"), 2, "/no/such/lspcheck: there is no such program")
     refuses(run(program, "silent", options=["--wait", 2]), 2, 'gave no answer in 2 seconds (see --wait) to')
+
+
+def says_that_a_session_is_not_legal(program, place):
+    """What lspcheck does not answer yes to says nothing about the server."""
+    for condition, words in [("true", "no 605 editor 3 event 4"), ('[ "$(wc -c)" -gt 20000 ]', "no 702 snapshot 9 event 20")]:
+        other = place / "other"
+        other.write_text(f"""#!/bin/sh
+[ "$1" = check ] || exec {quoted(program)} "$@"
+cat > {quoted(place)}/log.$$
+if {condition} < {quoted(place)}/log.$$; then echo {words}; exit 1; fi
+exec {quoted(program)} "$@" < {quoted(place)}/log.$$
+""")
+        other.chmod(0o755)
+        done = run_longer(other, is_wanted=lambda it: "nothing was asked" not in it.stderr)
+        refuses(done, 2, f'lspcheck says "{words}" about a session of this command')
 
 
 def says_its_version(program, place):
@@ -190,6 +205,7 @@ TESTS = [
     answers_bad_arguments,
     answers_faults_of_files,
     says_why_nothing_can_be_said,
+    says_that_a_session_is_not_legal,
     says_its_version,
     writes_each_value,
     leaves_out_what_it_is_told,
