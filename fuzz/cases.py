@@ -11,9 +11,8 @@ from messages import changed, notification, opened, request
 from overwriting import units
 
 LINE_END = re.compile("\r\n|\r|\n")
-# A request that leaves every text as it is, and the first id of these: those of questions are
-# lower.
-ASKED, FIRST_ID = "textDocument/documentSymbol", 1_000_000
+# A request that leaves every text as it is.
+ASKED = "textDocument/hover"
 
 
 @dataclass(frozen=True)
@@ -149,8 +148,8 @@ class Editor:
             yield self.open(uri, step.reopened, self.versions[uri] + 1)
         if step.is_asked:
             self.asked += 1
-            params = {"textDocument": {"uri": uri}}
-            yield Sent(request(FIRST_ID + self.asked, ASKED, params), uri)
+            params = {"textDocument": {"uri": uri}, "position": {"line": 0, "character": 0}}
+            yield Sent(request(f"asked-{self.asked}", ASKED, params), uri)
         if step.edits:
             yield self.change(uri, step.edits, step.skipped)
 

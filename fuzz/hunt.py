@@ -1,6 +1,7 @@
 """The hunt: session after session, until the time is over."""
 
 import time
+from collections import Counter
 from dataclasses import dataclass
 
 from cases import edits_of, text_before
@@ -23,6 +24,8 @@ from shrinking import Shrinking
 # How many cases are played in one server; how often servers may fail one after the other; how many
 # cases are tried to cut down what ends a server, each in a new one.
 MOST_PLAYS, MOST_FAULTS, MOST_ENDED = 600, 3, 30
+# How often fresh servers are shown what they did not show.
+MOST_UNCONFIRMED = 2
 # What is asked again before a difference is looked into, after this many seconds.
 AGAIN = (0.05, 0.3)
 # The other encodings that are offered first.
@@ -58,7 +61,8 @@ class Hunt:
     def __init__(self, workshop, language, seed, features, start=None):
         self.workshop, self.language = workshop, language
         self.seed, self.start, self.plan = seed, start, Plan(seed, features)
-        self.found, self.known, self.unconfirmed = [], set(), 0
+        # The drifts, what is known of each, and what fresh servers did not show, with how often.
+        self.found, self.known, self.unconfirmed = [], set(), Counter()
         self.sessions = self.edits = self.questions = self.faults = 0
         # How the server failed otherwise than by a drift.
         self.failures = []
@@ -92,6 +96,7 @@ class Hunt:
             self.faults = 0
         except Fault as why:
             self.stop(why)
+            self.best = None
             self.faults += 1
             self.failures.append(str(why))
             if self.faults >= MOST_FAULTS:
@@ -104,7 +109,8 @@ class Hunt:
             return
         self.questions += live.asked
         live.__exit__(why and type(why), why, None)
-        self.verdict = self.verdict or live.verdict
+        if live.verdict not in (None, "yes"):
+            self.verdict = live.verdict
 
     def session(self, note):
         features = self.plan.next()
@@ -160,7 +166,8 @@ class Hunt:
         """Cuts a case down, explains it, and shows it to fresh servers."""
         live, greeting = self.live, self.live.greeting
         confirming = Confirming(greeting, self.language)
-        at_fault = live.case_at_fault(text_before(whole, None))
+        text = text_before(whole, None)
+        at_fault = live.case_at_fault(text) if self.is_change_right else None
         if at_fault:
             whole, by_change, differing = at_fault, not at_fault.by_change, None
         # The names see most, so that no more need be asked.
@@ -169,12 +176,13 @@ class Hunt:
         case = self.cut_down(whole, is_shown, confirming)
         feature, way = self.feature_of(case, greeting), bool(at_fault) and by_change
         cause = Explaining(live, way).cause(case, whole)
-        if (feature, cause) not in self.known:
+        drift = feature, cause
+        if drift not in self.known and self.unconfirmed[drift] < MOST_UNCONFIRMED:
             shown = confirming.shown(case) or (case != whole and confirming.shown(whole))
             if shown:
                 self.take(Found(feature, cause, shown, number, self.edits), note)
             else:
-                self.unconfirmed += 1
+                self.unconfirmed[drift] += 1
         self.best = None
 
     def cut_down(self, whole, is_shown, confirming, **limits):
@@ -189,7 +197,7 @@ class Hunt:
         """The same with a case that ends the server."""
         confirming = Confirming(greeting, self.language)
         if not confirming.ends(whole):
-            self.unconfirmed += 1
+            self.unconfirmed[CRASH] += 1
             return
         case = self.cut_down(whole, confirming.ends, confirming, most=MOST_ENDED)
         _, sent, setting = confirming.session(case)

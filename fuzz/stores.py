@@ -90,9 +90,9 @@ class Held:
 
     def change(self, version, changes):
         is_lost = self.store.is_gapless and version > self.version + 1
+        self.version, text, before = version, self.text, self.text
         if self.text is None or is_lost:
             return
-        self.version, text, before = version, self.text, self.text
         for change in self.store.changes(changes):
             try:
                 text = self.changed(text, before if self.store.is_at_once else text, change)

@@ -105,11 +105,11 @@ class Telling:
         hunt = self.hunting
         for why in hunt.failures:
             self.report.line("server failed:", json.dumps(why), why=why)
-        if hunt.verdict not in (None, "yes"):
+        if hunt.verdict:
             said = json.dumps(hunt.verdict)
             self.report.line("lspcheck says", said, "of the server", verdict=hunt.verdict)
         counts = {"sessions": hunt.sessions, "edits": hunt.edits, "answers": hunt.questions,
-                  "unconfirmed": hunt.unconfirmed}
+                  "unconfirmed": sum(hunt.unconfirmed.values())}
         words = [word for it in counts.items() for word in it]
         self.report.line("drifts", len(hunt.found), *words, "seed", seed,
                          drifts=len(hunt.found), **counts, seed=seed)

@@ -24,7 +24,7 @@ stores of that command.
   late=S                   answers by the text of S seconds ago        now          answers otherwise each time
   silent                   answers no question                         breaks       answers without "jsonrpc"
   child=F                  starts a process, and writes its id to F    none         wants no changes
-  slow=S                   answers after S seconds
+  slow=S                   answers after S seconds                    formats      formats, and so shows its text
 """
 
 import json
@@ -149,13 +149,21 @@ def symbols(text):
             yield {"name": found[1] or found[2], "kind": 13, "range": place, "selectionRange": place}
 
 
+def formatted(text):
+    """The whole text, as it is."""
+    place = {"start": {"line": 0, "character": 0}, "end": {"line": text.count("\n") + 1, "character": 0}}
+    yield {"range": place, "newText": text}
+
+
 ANSWERS = {"textDocument/documentSymbol": symbols, "textDocument/foldingRange": folds}
+if "formats" in FAULTS:
+    ANSWERS["textDocument/formatting"], OFFERS["documentFormattingProvider"] = formatted, True
 
 
 class Server:
     def __init__(self):
         self.documents, self.closed, self.encoding = {}, {}, "utf-16"
-        self.heard, self.waiting, self.last = 0, 0, None
+        self.heard, self.is_asked, self.last = 0, False, None
 
     def send(self, **message):
         head = {} if "breaks" in FAULTS and "result" in message else {"jsonrpc": "2.0"}
@@ -202,7 +210,7 @@ class Server:
 
     def change(self, uri, version, changes):
         document = self.documents[self.last if "other" in FAULTS and self.last in self.documents else uri]
-        is_lost = "gaps" in FAULTS and version > document.version + 1 or "busy" in FAULTS and self.waiting
+        is_lost = "gaps" in FAULTS and version > document.version + 1 or "busy" in FAULTS and self.is_asked
         document.version = version
         if is_lost:
             return
@@ -243,11 +251,11 @@ class Server:
         if self.heard == int(FAULTS.get("ends", -1)):
             sys.exit(3)
         if "id" in message:
-            self.waiting = message["id"] if isinstance(message["id"], int) and message["id"] > 999_999 else 0
+            self.is_asked = message["method"] == "textDocument/hover"
             self.answer(message)
         else:
             self.hear(message["method"], message.get("params"))
-            self.waiting = 0
+            self.is_asked = False
 
 
 def messages():
