@@ -3,6 +3,7 @@ store would hold, and asked the same."""
 
 from dataclasses import dataclass
 
+from cases import Editor, text_before
 from features import SEPARATORS
 from live import unlike
 from messages import changed
@@ -46,8 +47,7 @@ class Explaining:
         texts = self.texts_of(case, stores)
         if not texts:
             return []
-        document, _ = self.live.play(case)
-        answers, = self.live.answers([document])
+        answers, = self.live.answers([self.live.play(case)])
         found = []
         for held_texts in list(texts)[:MOST_TEXTS]:
             if not unlike(answers, self.answers_to(held_texts)):
@@ -57,11 +57,12 @@ class Explaining:
     def texts_of(self, case, stores):
         """The wrong texts that stores would hold, before the lines are overwritten and after, each
         with its stores."""
-        document, sent = self.live.play(case)
-        self.live.answers([document], overwrites=False)
+        encoding = self.live.greeting.encoding
+        uris = [f"file:///{it}" for it in range(len(case.texts))]
+        sent = list(Editor(self.live.language.name, encoding).messages(case, uris))
+        document = self.live.told(uris[0], text_before(case, None))
         contents, found = [it.content for it in sent], {}
         more = [changed(document.uri, 0, it) for it in document.messages]
-        encoding = self.live.greeting.encoding
         for store in stores:
             texts = held(store, contents, encoding, document.uri, more)
             if texts != (document.text, document.overwriting.text):

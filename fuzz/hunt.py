@@ -123,7 +123,7 @@ class Hunt:
         # The right text comes in a didOpen or in a change, in turns; and some servers get the time
         # to work on each message.
         by_change = number % 2 == 1 and self.is_change_right
-        is_slow = number % 3 == 2 and "bursts" not in features
+        is_slow = number % 5 == 4 and "bursts" not in features
         live = self.live_with(greeting)
         self.edits += edits_of(case)
         try:
@@ -195,7 +195,7 @@ class Hunt:
 
     def look_into_end(self, greeting, whole, number, note):
         """The same with a case that ends the server."""
-        confirming = Confirming(greeting, self.language)
+        confirming, self.best = Confirming(greeting, self.language), None
         if not confirming.ends(whole):
             self.unconfirmed[CRASH] += 1
             return

@@ -90,20 +90,17 @@ class Live:
             self.journal.note(sent.uri, sent.version, sent.text)
 
     def play(self, case, is_slow=False):
-        """Plays a case: its first document, and its messages. A slow one waits after each for an
-        answer."""
+        """Plays a case: its first document. A slow one waits after each message for an answer."""
         self.plays += 1
-        uris, messages = [self.uri() for _ in case.texts], []
+        uris = [self.uri() for _ in case.texts]
         for sent in self.editor.messages(case, uris):
             self.send(sent)
-            messages.append(sent)
             if is_slow and sent.step is not None:
                 self.run.ask(SYMBOLS, {"textDocument": {"uri": sent.uri}})
-        return self.told(uris[0]), messages
+        return self.told(uris[0], self.editor.texts[uris[0]])
 
-    def told(self, uri):
-        """A document, as what asks takes it."""
-        text = self.editor.texts[uri]
+    def told(self, uri, text):
+        """A document with this text, as what asks takes it."""
         written = overwriting(text, self.form, self.greeting.encoding)
         return Told(Opened(uri), text, written, False, self.is_one_by_one)
 
@@ -160,15 +157,15 @@ class Live:
     def differing(self, case, by_change=False, pauses=(), is_slow=False, only=None):
         """The questions, perhaps of some alone, that a document is answered otherwise, once a case
         was played, than one that is given the right text at once: by a didOpen or by a change."""
-        document, _ = self.play(case, is_slow)
-        control, _ = self.play(Case((document.text,), (), by_change))
+        document = self.play(case, is_slow)
+        control = self.play(Case((document.text,), (), by_change))
         one, other = self.answers([document, control], pauses, only=only)
         return unlike(one, other)
 
     def case_at_fault(self, text):
         """The case of a didOpen of this text, or of a change to it without a range, if one of them
         is at fault: documents that got the text in these two ways then answer otherwise."""
-        told, other = (self.play(Case((text,), (), it))[0] for it in (False, True))
+        told, other = (self.play(Case((text,), (), it)) for it in (False, True))
         opened, changed = self.answers([told, other])
         differing = unlike(opened, changed)
         if not differing:
@@ -179,12 +176,12 @@ class Live:
     def calibrate(self, text):
         """Finds the questions that say nothing, and whether each change that overwrites must be a
         message for the names to show. Whether any question is left."""
-        documents = [self.play(Case((text,)))[0] for _ in range(2)]
+        documents = [self.play(Case((text,))) for _ in range(2)]
         one, other = self.answers(documents, (0.05, 0.2))
         self.unsteady |= set(unlike(one, other))
         if not self.is_one_by_one and not self.shows_names(documents[0], one):
             self.is_one_by_one = True
-            again, _ = self.play(Case((text,)))
+            again = self.play(Case((text,)))
             self.is_one_by_one = self.shows_names(again, self.answers([again])[0])
         return [key for key in one if key not in self.unsteady and compared(one[key]) is not None]
 
@@ -195,7 +192,7 @@ class Live:
     def answers_without_text(self):
         """What is answered about a document that is not open."""
         uri, found = self.uri(), {}
-        document = Told(Opened(uri), "", overwriting(""))
+        document = self.told(uri, "")
         keys = [it for it in Asking(self.greeting.setting, [document], Plan()).asked(self.run)
                 if not it.is_overwritten]
         self.hear({uri: found}, [document], keys)
@@ -203,6 +200,6 @@ class Live:
 
     def answers_to_text(self, text, by_change):
         """What is answered about a document that is given this text."""
-        document, _ = self.play(Case((text,), (), by_change))
+        document = self.play(Case((text,), (), by_change))
         answers, = self.answers([document], overwrites=False)
         return answers

@@ -28,7 +28,7 @@ class Plan:
         return [it for it in FEATURES if it in self.chosen and it not in PLAIN]
 
     def is_over(self):
-        """Whether no session can show anything new: the plain features were in all that was sent."""
+        """Whether no session can show anything new. The plain features were in each."""
         return not self.chosen or self.had_special and not self.special
 
     def next(self):
