@@ -32,11 +32,12 @@ class Explaining:
         self.live, self.by_change = live, by_change
 
     def cause(self, case, whole):
-        """The cause of a case that was cut down from a whole one: that tells apart what explains
-        both."""
+        """The cause of a case that was cut down from a whole one. What explains both, or another
+        one like it, is told apart by that."""
         found = next(filter(None, (self.explaining(case, it) for it in KINDS)), [])
-        if len(names_of(found)) > 1 and whole != case:
-            found = self.explaining(whole, found) or found
+        for other in (whole, case.mapped(with_astral)):
+            if len(names_of(found)) > 1 and other != case:
+                found = self.explaining(other, found) or found
         names = names_of(found)
         if len(names) == 1 and names[0] in SEPARATING:
             names = (self.separators(case, names[0]),)
@@ -93,6 +94,12 @@ class Explaining:
 
 
 SEPARATING = {f"{name} ends a line": it for it, name in SEPARATORS.items()}
+
+
+def with_astral(text):
+    """A text in which each character that is not ASCII is one that counts otherwise in each
+    encoding."""
+    return "".join(it if it.isascii() else "😀" for it in text)
 
 
 def names_of(stores):
