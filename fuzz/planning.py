@@ -1,4 +1,4 @@
-"""Which features each session has: in turns, one besides the plain ones, then some at once."""
+"""Which features each session has: in turns, one next to the plain ones, then some at once."""
 
 import random
 from collections import deque
@@ -36,9 +36,9 @@ class Plan:
         while True:
             if not self.queue:
                 self.fill()
-            wanted = self.queue.popleft()
-            left = wanted & self.chosen
-            if left or not wanted:
+            planned = self.queue.popleft()
+            left = planned & self.chosen
+            if left or not planned:
                 return self.completed(left)
 
     def fill(self):

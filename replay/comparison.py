@@ -1,7 +1,7 @@
 """Compares what a server answers that was sent the log with what fresh ones answer."""
 
 import re
-from dataclasses import dataclass
+from dataclasses import dataclass, replace
 
 from asking import Plan, answers_of, is_settled, last_of, told
 from drive import Run, at_once
@@ -172,7 +172,8 @@ class Comparison:
 
     def plans(self, keys):
         """What is asked at length, without what more is sent, and with it."""
-        return [Plan(self.pauses, keys, self.has_diagnostics, sends_more) for sends_more in (False, True)]
+        plan = Plan(self.pauses, keys, self.has_diagnostics)
+        return plan, replace(plan, sends_more=True)
 
     def with_faults(self, number, uris):
         """The same, and what is at fault in each document about which two fresh servers disagree:
