@@ -3,11 +3,11 @@ store would hold, and asked the same."""
 
 from dataclasses import dataclass
 
-from cases import Editor, text_before
+from cases import LINE_END, Editor, text_before
 from features import SEPARATORS
 from live import unlike
 from messages import changed
-from stores import KINDS, held
+from stores import ANYTHING, KINDS, held
 
 # How many texts are tried of each kind of stores.
 MOST_TEXTS = 24
@@ -32,9 +32,9 @@ class Explaining:
         self.live, self.by_change = live, by_change
 
     def cause(self, case, whole):
-        """The cause of a case that was cut down from a whole one. What explains both, or another
-        one like it, is told apart by that."""
-        found = next(filter(None, (self.explaining(case, it) for it in KINDS)), [])
+        """The cause of a case that was cut down from a whole one. What explains it is told apart by
+        other cases."""
+        found = self.stores_for(case)
         for other in (whole, case.mapped(with_astral)):
             if len(names_of(found)) > 1 and other != case:
                 found = self.explaining(other, found) or found
@@ -43,9 +43,22 @@ class Explaining:
             names = (self.separators(case, names[0]),)
         return Cause(names[:2])
 
-    def explaining(self, case, stores):
-        """The stores with which a document would answer as the server does."""
-        texts = self.texts_of(case, stores)
+    def stores_for(self, case):
+        """The stores of the first kind that explain a case and, but for those that explain anything,
+        what the server answers in plainer ones."""
+        plainer = [it for it in map(case.mapped, (in_ascii, in_lines)) if it != case]
+        for kind in KINDS:
+            found = self.explaining(case, kind)
+            for other in plainer if kind is not ANYTHING else ():
+                found = found and self.explaining(other, found, True)
+            if found:
+                return found
+        return []
+
+    def explaining(self, case, stores, may_be_right=False):
+        """The stores with which a document would answer as the server does. Unless they may be
+        right, they hold a wrong text."""
+        texts = self.texts_of(case, stores, may_be_right)
         if not texts:
             return []
         answers, = self.live.answers([self.live.play(case)])
@@ -55,9 +68,9 @@ class Explaining:
                 found += texts[held_texts]
         return sorted(found, key=stores.index)
 
-    def texts_of(self, case, stores):
-        """The wrong texts that stores would hold, before the lines are overwritten and after, each
-        with its stores."""
+    def texts_of(self, case, stores, may_be_right):
+        """The texts that stores would hold, before the lines are overwritten and after, each with
+        its stores."""
         encoding = self.live.greeting.encoding
         uris = [f"file:///{it}" for it in range(len(case.texts))]
         sent = list(Editor(self.live.language.name, encoding).messages(case, uris))
@@ -66,7 +79,7 @@ class Explaining:
         more = [changed(document.uri, 0, it) for it in document.messages]
         for store in stores:
             texts = held(store, contents, encoding, document.uri, more)
-            if texts != (document.text, document.overwriting.text):
+            if may_be_right or texts != (document.text, document.overwriting.text):
                 found.setdefault(texts, []).append(store)
         return found
 
@@ -94,6 +107,16 @@ class Explaining:
 
 
 SEPARATING = {f"{name} ends a line": it for it, name in SEPARATORS.items()}
+
+
+def in_ascii(text):
+    """A text in which each character that is not plain ASCII is an x."""
+    return "".join(it if it in "\t\r\n" or " " <= it < "\x7f" else "x" for it in text)
+
+
+def in_lines(text):
+    """A text whose lines end with LF."""
+    return LINE_END.sub("\n", text)
 
 
 def with_astral(text):

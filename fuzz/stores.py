@@ -16,7 +16,11 @@ AS_END, AFTER_END, RUNS_ON, IGNORED, MESSAGE_IGNORED, DROPPED = range(6)
 
 
 class Refused(Exception):
-    """A change that a store does not make."""
+    """A change that a store does not make, and what becomes of the others."""
+
+    def __init__(self, how):
+        super().__init__(how)
+        self.how = how
 
 
 def as_sent(value):
@@ -33,6 +37,8 @@ class Store:
     encoding: str = None
     ends: str = LINE_ENDS
     past: int = AS_END
+    # The same for a line past the last one alone.
+    beyond: int = AS_END
     # What becomes of the text of a didOpen, of that of a change, of all changes of a message, and
     # of a range.
     opened: object = as_sent
@@ -96,9 +102,9 @@ class Held:
         for change in self.store.changes(changes):
             try:
                 text = self.changed(text, before if self.store.is_at_once else text, change)
-            except Refused:
-                if self.store.past != IGNORED:
-                    self.text = None if self.store.past == DROPPED else before
+            except Refused as refused:
+                if refused.how != IGNORED:
+                    self.text = None if refused.how == DROPPED else before
                     return
         self.text = text
 
@@ -115,22 +121,24 @@ class Held:
     def offset(self, text, lines, place):
         line, column = place["line"], place["character"]
         if line >= len(lines):
-            self.refuse()
+            check(max(self.store.past, self.store.beyond))
             return len(text)
         start, end, next_start = lines[line]
         at = start + in_characters(text[start:end], column, self.encoding)
         if column <= units(text[start:end], self.encoding):
             return at
-        self.refuse()
+        check(self.store.past)
         if self.store.past == AFTER_END:
             return next_start
         if self.store.past == RUNS_ON:
             return start + in_characters(text[start:], column, self.encoding)
         return end
 
-    def refuse(self):
-        if self.store.past in (IGNORED, MESSAGE_IGNORED, DROPPED):
-            raise Refused
+
+def check(how):
+    """Fails if a position that is taken like this refuses its change."""
+    if how in (IGNORED, MESSAGE_IGNORED, DROPPED):
+        raise Refused(how)
 
 
 def lines_of(text, ends):
@@ -206,6 +214,11 @@ PAST = [
     Store("change ignored", past=MESSAGE_IGNORED),
     Store("document dropped", past=DROPPED),
 ]
+BEYOND = [
+    Store("change ignored", beyond=IGNORED),
+    Store("change ignored", beyond=MESSAGE_IGNORED),
+    Store("document dropped", beyond=DROPPED),
+]
 OTHERS = [
     Store("text of didOpen ignored", opened=lambda it: ""),
     Store("changes without a range ignored", is_wholeless=True),
@@ -240,4 +253,4 @@ def pairs():
 
 
 # The first kind that has a store that explains a drift tells its cause.
-KINDS = [[*FAULTS, *PAST, *OTHERS], WITH_PAST, ANYTHING, pairs()]
+KINDS = [[*FAULTS, *PAST, *BEYOND, *OTHERS], WITH_PAST, ANYTHING, pairs()]
