@@ -1,7 +1,7 @@
 """Which wrong store explains what a server answers: fresh documents are given the texts that each
 store would hold, and asked the same."""
 
-from dataclasses import dataclass
+from dataclasses import dataclass, replace
 
 from cases import LINE_END, Editor, text_before
 from features import SEPARATORS
@@ -46,7 +46,7 @@ class Explaining:
     def stores_for(self, case):
         """The stores of the first kind that explain a case and, but for those that explain anything,
         what the server answers in plainer ones."""
-        plainer = [it for it in map(case.mapped, (in_ascii, in_lines)) if it != case]
+        plainer = {case.mapped(in_ascii), case.mapped(in_lines), within_lines(case)} - {case}
         for kind in KINDS:
             found = self.explaining(case, kind)
             for other in plainer if kind is not ANYTHING else ():
@@ -117,6 +117,15 @@ def in_ascii(text):
 def in_lines(text):
     """A text whose lines end with LF."""
     return LINE_END.sub("\n", text)
+
+
+def within_lines(case):
+    """A case none of whose positions is past an end."""
+    steps = tuple(
+        replace(it, edits=tuple(replace(edit, past=0, lines=0) for edit in it.edits))
+        for it in case.steps
+    )
+    return replace(case, steps=steps)
 
 
 def with_astral(text):

@@ -51,7 +51,9 @@ class Shrinking:
         for number, text in enumerate(self.case.texts):
             if not text.endswith(("\r", "\n")):
                 end = (LINE_END.findall(text) or ["\n"])[-1]
-                self.keep(replace(self.case, texts=put(self.case.texts, number, f"{text}{end}")))
+                ended = replace(self.case, texts=put(self.case.texts, number, f"{text}{end}"))
+                self.tried.discard(ended)
+                self.keep(ended)
 
     def unify_ends(self):
         """Has lines of one kind, unless it takes several."""
