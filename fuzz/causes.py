@@ -44,12 +44,11 @@ class Explaining:
         return Cause(names[:2])
 
     def stores_for(self, case):
-        """The stores of the first kind that explain a case and, but for those that explain anything,
-        what the server answers in plainer ones."""
-        plainer = {case.mapped(in_ascii), case.mapped(in_lines), within_lines(case)} - {case}
+        """The stores of the first kind that explain a case and, unless they explain anything, what
+        the server answers in plainer ones."""
         for kind in KINDS:
             found = self.explaining(case, kind)
-            for other in plainer if kind is not ANYTHING else ():
+            for other in plainer_cases(case) if kind is not ANYTHING else ():
                 found = found and self.explaining(other, found, True)
             if found:
                 return found
@@ -109,6 +108,12 @@ class Explaining:
 SEPARATING = {f"{name} ends a line": it for it, name in SEPARATORS.items()}
 
 
+def plainer_cases(case):
+    """Cases that have less: what is wrong for their sake may be right there."""
+    texts = (case.mapped(in_ascii), case.mapped(in_lines))
+    return [it for it in (*texts, within_lines(case), one_by_one(case)) if it != case]
+
+
 def in_ascii(text):
     """A text in which each character that is not plain ASCII is an x."""
     return "".join(it if it in "\t\r\n" or " " <= it < "\x7f" else "x" for it in text)
@@ -126,6 +131,13 @@ def within_lines(case):
         for it in case.steps
     )
     return replace(case, steps=steps)
+
+
+def one_by_one(case):
+    """A case with a message for each edit."""
+    steps = (replace(it, edits=(edit,)) for it in case.steps for edit in it.edits)
+    reopened = any(it.reopened is not None for it in case.steps)
+    return case if reopened else replace(case, steps=tuple(steps))
 
 
 def with_astral(text):
