@@ -2,6 +2,7 @@
 
 import json
 import os
+import re
 import tempfile
 from dataclasses import dataclass
 from pathlib import Path
@@ -31,6 +32,8 @@ LANGUAGES = {
     "rust-analyzer": "rust", "solargraph": "ruby", "texlab": "latex", "taplo": "toml",
     "typescript-language-server": "typescript", "vscode-json-language-server": "json", "zls": "zig",
 }
+# What a server breaks, in a report.
+OF_SERVER = re.compile(r"no \d+ server ")
 # How a server wants the changes of a document.
 FULL, INCREMENTAL = 1, 2
 SYMBOLS = {"hierarchicalDocumentSymbolSupport": True}
@@ -164,24 +167,24 @@ class Workshop:
         return name
 
     def verdict(self, path):
-        """The first line that lspcheck says about a log."""
-        report = Program(self.program, path).output("check")
-        return report.decode("utf-8", "replace").partition("\n")[0]
+        """What lspcheck says about a log: `yes`, or what the server breaks. What this side breaks
+        is a fault of this command: then nothing that the session shows counts."""
+        report = Program(self.program, path).output("check", "--all").decode("utf-8", "replace")
+        verdicts = [it for it in report.splitlines() if it.startswith(("yes", "no ", "bad "))]
+        own = [it for it in verdicts if it != "yes" and not OF_SERVER.match(it)]
+        if own or not verdicts:
+            said = json.dumps((own or report.splitlines() or [""])[0])
+            raise Failed(f"lspcheck says {said} about a session of this command", 2)
+        return verdicts[0]
 
     def setting_of(self, log):
         """What replays a log, which must be right."""
         path = self.file(log)
-        self.check_yes(path)
+        self.verdict(path)
         program = Program(self.program, path)
         recording = read(program)
         choose(recording, self.folders, True)
         return self.setting(program, recording)
-
-    def check_yes(self, path):
-        """Fails if a session that is sent breaks a rule: then nothing that it shows counts."""
-        verdict = self.verdict(path)
-        if verdict != "yes":
-            raise Failed(f"lspcheck says {json.dumps(verdict)} about a session of this command", 2)
 
 
 class Journal:
@@ -197,12 +200,10 @@ class Journal:
         self.tape.write([snapshot(uri, version, text)])
 
     def close(self):
-        """Ends the log, which must be right. A rule that the server breaks is said, not judged."""
+        """Ends the log: what lspcheck says about it."""
         self.file.close()
         if self.tape.error:
             raise Failed(f"{self.path}: {self.tape.error.strerror}", 3)
         verdict = self.workshop.verdict(self.path)
-        if verdict != "yes" and " server " not in verdict:
-            raise Failed(f"lspcheck says {json.dumps(verdict)} about a session of this command", 2)
         os.unlink(self.path)
         return verdict

@@ -72,7 +72,7 @@ if {condition} < {quoted(place)}/log.$$; then echo {words}; exit 1; fi
 exec {quoted(program)} "$@" < {quoted(place)}/log.$$
 """)
         other.chmod(0o755)
-        done = run_longer(other, is_wanted=lambda it: "nothing was asked" not in it.stderr)
+        done = run_longer(other, is_wanted=lambda it: f'"{words}"' in it.stderr)
         refuses(done, 2, f'lspcheck says "{words}" about a session of this command')
 
 
