@@ -31,9 +31,9 @@ class Shrinking:
         return True
 
     def smallest(self):
-        self.shorten()
         while True:
             before = self.case
+            self.shorten()
             self.drop_steps()
             self.drop_document()
             self.simplify_steps()
@@ -64,10 +64,9 @@ class Shrinking:
     def shorten(self):
         """The fewest last steps, after the right text before them."""
         case, count = self.case, len(self.case.steps)
-        if len(case.texts) > 1 or not count:
+        if len(case.texts) > 1 or not count or self.keep(tail(case, 1)):
             return
-        tails = {it: tail(case, it) for it in range(count + 1)}
-        first_of(0, count, lambda it: it == count or self.keep(tails[it]))
+        first_of(0, count, lambda it: it == count or self.keep(tail(case, it)))
 
     def drop_steps(self):
         """Runs of steps, the long ones first, from the last on."""

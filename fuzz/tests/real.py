@@ -9,9 +9,8 @@ import sys
 from hunts import COMMAND, HASTY, SERVER, TOP, check, run
 from processes import SECONDS
 
-# How each server says its version, and what it shows that docs/FOUND.md lists: the feature and the
-# cause of each drift.
-VERSIONS = {"clangd": ["--version"], "pylsp": ["--version"], "gopls": ["version"], "ccls": ["--version"]}
+# The Debian package of each server, which has its version.
+PACKAGES = {"clangd": "clangd-14", "pylsp": "python3-pylsp", "gopls": "gopls", "ccls": "ccls"}
 # How long a real server is tried, in seconds.
 LONG = 120
 
@@ -88,16 +87,16 @@ def page_lists_each_log(program, place):
 
 
 def installed(name):
-    """The version of a server, as far as it says it; None if it is not installed."""
-    if shutil.which(name) is None:
+    """The version of a server, as Debian has it; None if it is not installed."""
+    if shutil.which(name) is None or shutil.which("dpkg-query") is None:
         return None
-    done = subprocess.run([name, *VERSIONS[name]], capture_output=True, text=True)
-    return done.stdout + done.stderr
+    words = ["dpkg-query", "-W", "-f", "${Version}", PACKAGES[name]]
+    return subprocess.run(words, capture_output=True, text=True).stdout
 
 
 def finds_what_the_page_says(program, place):
     """In each server of these versions, in two minutes; and each log shows it again."""
-    for name in VERSIONS:
+    for name in PACKAGES:
         said = installed(name)
         wanted = [row for row in rows() if row[0] == name and said and row[1] in said]
         if not wanted:
