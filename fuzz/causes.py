@@ -35,7 +35,7 @@ class Explaining:
         """The cause of a case that was cut down from a whole one. What explains it is told apart by
         other cases."""
         found = self.stores_for(case)
-        for other in (whole, case.mapped(with_astral)):
+        for other in (whole, wide(case)):
             if len(names_of(found)) > 1 and other != case:
                 found = self.explaining(other, found) or found
         names = names_of(found)
@@ -140,10 +140,24 @@ def one_by_one(case):
     return case if reopened else replace(case, steps=tuple(steps))
 
 
-def with_astral(text):
-    """A text in which each character that is not ASCII is one that counts otherwise in each
-    encoding."""
-    return "".join(it if it.isascii() else "😀" for it in text)
+def wide(case):
+    """A case in which each character that is not ASCII counts otherwise in each encoding, and in
+    whose first text no column is past the end of its line, however it is counted."""
+    text, wider = case.texts[0], 4 * max(map(len, case.texts))
+    ends = [it.start() for it in LINE_END.finditer(text)]
+
+    def moved(at):
+        return None if at is None else at + wider * sum(end < at for end in ends)
+
+    steps = tuple(
+        replace(it, edits=tuple(
+            replace(edit, start=moved(edit.start), end=moved(edit.end)) for edit in it.edits
+        ))
+        for it in case.steps
+    )
+    text = LINE_END.sub(lambda end: "x" * wider + end[0], text)
+    wider_case = replace(case, texts=(text, *case.texts[1:]), steps=steps)
+    return wider_case.mapped(lambda it: "".join(it if it.isascii() else "😀" for it in it))
 
 
 def names_of(stores):
