@@ -38,7 +38,8 @@ class Traits:
         return max(map(len, lines)) >= LONG
 
     def has_open_end(self):
-        return any(it and not it.endswith(("\r", "\n")) for it in self.texts)
+        texts = [it for it in self.texts if it or not self.case.steps]
+        return any(not it.endswith(("\r", "\n")) for it in texts)
 
     def has_whole_text(self):
         return self.case.by_change or any(it.start is None for it in self.edits)
