@@ -12,8 +12,8 @@ from messages import Message
 from servers import Ended, TimedOut
 from witness import MOST_LINES
 
-# For how many seconds a server is waited for that is asked nothing, and for how many times as long as
-# another run took that ended.
+# For how many seconds a server is waited for that is asked nothing, and for how many times as long
+# as another run took that ended.
 PATIENCE, TIMES = 2, 4
 
 

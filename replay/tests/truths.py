@@ -10,7 +10,7 @@ import expected
 import sessions
 from faults import session_of
 from logs import notification, request, result
-from trials import HASTY, QUESTIONS, SERVER, TOP, blocks, check, named, run
+from trials import HASTY, QUESTIONS, SERVER, TOP, blocks, check, named, run, side_by_side
 from usage import put
 
 sys.path.append(str(TOP / "replay"))
@@ -355,29 +355,31 @@ def says_what_others_say(program, place_of):
 
 
 def runs_as_many_servers_as_it_says(program, place_of):
-    """A long log, and a server that says how many of it run when it starts."""
+    """Also where the search tries several messages of a long log at once."""
     long, short = (
         put(place_of, session_of([fault], messages, {"asks": 0})[0], f"{messages}.log")
         for fault, messages in (("lose=50", 260), ("lose=5", 20))
     )
-    counts = place_of / "counts"
-    watched = place_of / "watched.py"
-    (place_of / "running").mkdir()
-    watched.write_text(WATCHED.format(str(SERVER[-1]), str(place_of / "running"), str(counts)))
     # Where a server takes much memory, servers run one after the other.
     frugal = place_of / "frugal.py"
     frugal.write_text(FRUGAL.format([str(TOP / it) for it in ("replay", "page", "recorders")], str(HASTY)))
-    for options, most, command, log, fault in [
-        (["--jobs", 1], 1, HASTY, long, "lose=50"),
-        (["--jobs", 2], 2, HASTY, long, "lose=50"),
-        ([], 4, HASTY, long, "lose=50"),
-        ([], 1, frugal, short, "lose=5"),
-    ]:
-        counts.unlink(missing_ok=True)
+
+    def runs_at_most(most, options, command, log, fault):
+        place = place_of / f"{command.stem}-{most}"
+        (place / "running").mkdir(parents=True)
+        counts, watched = place / "counts", place / "watched.py"
+        watched.write_text(WATCHED.format(str(SERVER[-1]), str(place / "running"), str(counts)))
         done = run(program, log, fault, server=[sys.executable, watched], options=options, command=command)
         assert len(named(done)) == 1, done
         numbers = list(map(int, counts.read_text().split()))
-        assert 0 < min(numbers) and max(numbers) <= most, (options, command, numbers)
+        assert 0 < min(numbers) and max(numbers) <= most, numbers
+
+    side_by_side(runs_at_most, [
+        (4, [], HASTY, long, "lose=50"),
+        (2, ["--jobs", 2], HASTY, short, "lose=5"),
+        (1, ["--jobs", 1], HASTY, short, "lose=5"),
+        (1, [], frugal, short, "lose=5"),
+    ])
 
 
 FRUGAL = """
@@ -387,10 +389,11 @@ import trial
 trial.MUCH_MEMORY = 1
 runpy.run_path({1!r}, run_name="__main__")
 """
-# Each server has a file that is locked until it has ended: on a busy machine, the number of a process soon
-# is that of another one.
+# Each server has a file that is locked until it has ended, which it takes its time for: on a busy machine,
+# the number of a process soon is that of another one.
 WATCHED = """
-import fcntl, os, runpy, uuid
+import atexit, fcntl, os, runpy, time, uuid
+atexit.register(time.sleep, 0.2)
 def is_locked(name):
     with open(os.path.join({1!r}, name)) as file:
         try:
@@ -488,6 +491,7 @@ server.main()
 
 
 TESTS = [
+    runs_as_many_servers_as_it_says,
     names_each_fault_of_an_open,
     keeps_what_it_found_when_a_server_is_busy,
     finds_the_message_that_ends_the_server,
@@ -508,7 +512,6 @@ TESTS = [
     asks_again_after_an_error_that_passes,
     says_that_the_server_refuses,
     says_what_others_say,
-    runs_as_many_servers_as_it_says,
     takes_many_logs,
     gives_each_server_a_folder,
 ]
