@@ -1,6 +1,7 @@
 """An honest server: nothing is found, whatever it offers, and however late it is."""
 
 from hunts import COMMAND, objects_of, run, run_longer, side_by_side
+from processes import SECONDS
 
 # What an honest server may do.
 KINDS = [[], ["utf-8"], ["utf-32"], ["full"], ["late=0.02"], ["now"]]
@@ -47,10 +48,8 @@ def makes_the_same_of_the_same_seed(program, place):
     said = set()
     for number in range(2):
         small = place / f"{number}.log"
-        done = run_longer(
-            program, "whole", options=["--small", small, "--only", "whole"], seed=7,
-            is_wanted=lambda it: it.returncode == 1,
-        )
+        options = ["--small", small, "--only", "whole", "--seconds", SECONDS]
+        done = run(program, "whole", options=options, seed=7)
         first = done.stdout.splitlines()[0]
         assert done.returncode == 1 and first.startswith("drift whole: "), done
         said.add((first, small.read_bytes().partition(b"didOpen")[2]))

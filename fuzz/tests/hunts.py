@@ -29,7 +29,7 @@ def words_of(program, *faults, options=(), command=HASTY, server=SERVER, seed=1,
 
 def run(program, *faults, options=(), command=HASTY, server=SERVER, seed=1, language="c", **how):
     """A hunt to its end."""
-    how = {"capture_output": True, "text": True, "timeout": SECONDS, **how}
+    how = {"capture_output": True, "text": True, "timeout": 2 * SECONDS, **how}
     words = words_of(
         program, *faults, options=options, command=command, server=server, seed=seed, language=language
     )

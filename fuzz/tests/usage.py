@@ -88,9 +88,8 @@ def says_its_version(program, place):
 def writes_each_value(program, place):
     """The lines of a drift, and the same as objects; the small case is six messages."""
     small = place / "small.log"
-    options = ["--small", small, "--only", "astral"]
-    wanted = "drift astral: counts characters; text "
-    done = run_longer(program, "characters", options=options, is_wanted=lambda it: wanted in it.stdout)
+    options = ["--small", small, "--only", "astral", "--seconds", SECONDS]
+    done = run(program, "characters", options=options)
     first, second, last = done.stdout.splitlines()
     pattern = (r'drift astral: counts characters; text ("[^"]*") change 0:(\d+)-0:(\d+) ("[^"]*") '
                r'right ("[^"]*") seed 1 session \d+ edits \d+')
@@ -103,9 +102,7 @@ def writes_each_value(program, place):
     assert second == f"small {small} 6 messages", second
     assert re.fullmatch(r"drifts 1 sessions \d+ edits \d+ answers \d+ unconfirmed 0 seed 1", last), last
     assert check(program, small) == "yes" and replayed(program, small, "characters").returncode == 1
-    done = run_longer(
-        program, "characters", options=[*options, "--json"], is_wanted=lambda it: it.returncode == 1
-    )
+    done = run(program, "characters", options=[*options, "--json"])
     drift, written, total, status = objects_of(done)
     assert (drift["is"], drift["feature"], drift["causes"]) == ("drift", "astral", ["counts characters"])
     assert (drift["text"], drift["right"], drift["messages"]) == (text, right, 6), drift
