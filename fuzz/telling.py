@@ -46,7 +46,16 @@ class Telling:
         self.is_terminal = sys.stderr is not None and sys.stderr.isatty()
 
     def hunt(self, workshop, language, seed, start):
-        """Hunts for drifts: the status."""
+        """Hunts for drifts: the status, which is told, too."""
+        try:
+            status = self.status_of(workshop, language, seed, start)
+        except Failed as failed:
+            self.report.end(failed.status, str(failed))
+            raise
+        self.report.end(status)
+        return status
+
+    def status_of(self, workshop, language, seed, start):
         self.hunting = Hunt(workshop, language, seed, self.given.features, start)
         try:
             self.hunting.run(self.given.seconds, self.tell, self.tell_progress)
