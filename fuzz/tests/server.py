@@ -18,7 +18,7 @@ stores of that command.
   nfc                      composes characters                         newline      adds a line end to the last line
   length                   ignores a change with a rangeLength         busy         ignores changes while a request is open
   closed                   ends a range one column later               narrow       has 8 bits for a column
-  other                    makes a change in the document that was opened last
+  many=N                   ignores changes of documents that are opened after N others
   ends=N                   ends at its N-th message                    offerless    answers no questions
   utf-8, utf-32            takes this encoding, if it is offered       full         wants whole texts
   late=S                   answers by the text of S seconds ago        now          answers otherwise each time
@@ -163,7 +163,7 @@ if "formats" in FAULTS:
 class Server:
     def __init__(self):
         self.documents, self.closed, self.encoding = {}, {}, "utf-16"
-        self.heard, self.is_asked, self.last = 0, False, None
+        self.heard, self.is_asked, self.opened = 0, False, 0
 
     def send(self, **message):
         head = {} if "breaks" in FAULTS and "result" in message else {"jsonrpc": "2.0"}
@@ -206,13 +206,14 @@ class Server:
         if "keeps" in FAULTS:
             text = self.closed.get(uri, text)
         self.documents[uri] = Document(text, document["version"], self.encoding)
-        self.last = uri
+        self.documents[uri].is_late = self.opened >= int(FAULTS.get("many", 1 << 30))
+        self.opened += 1
 
     def change(self, uri, version, changes):
-        document = self.documents[self.last if "other" in FAULTS and self.last in self.documents else uri]
+        document = self.documents[uri]
         is_lost = "gaps" in FAULTS and version > document.version + 1 or "busy" in FAULTS and self.is_asked
         document.version = version
-        if is_lost:
+        if is_lost or document.is_late:
             return
         changes = changes[::-1] if "backwards" in FAULTS else changes
         changes = changes[:1] if "first" in FAULTS else changes[-1:] if "final" in FAULTS else changes
