@@ -63,12 +63,12 @@ def says_why_nothing_can_be_said(program, place):
 
 def says_that_a_session_is_not_legal(program, place):
     """What lspcheck does not answer yes to says nothing about the server."""
-    for condition, words in [("true", "no 605 editor 3 event 4"), ('[ "$(wc -c)" -gt 3000 ]', "no 702 snapshot 9 event 20")]:
+    for size, words in [(0, "no 605 editor 3 event 4"), (3000, "no 702 snapshot 9 event 20")]:
         other = place / "other"
         other.write_text(f"""#!/bin/sh
 [ "$1" = check ] || exec {quoted(program)} "$@"
 cat > {quoted(place)}/log.$$
-if {condition} < {quoted(place)}/log.$$; then echo {words}; exit 1; fi
+if [ $(wc -c < {quoted(place)}/log.$$) -gt {size} ]; then echo {words}; exit 1; fi
 exec {quoted(program)} "$@" < {quoted(place)}/log.$$
 """)
         other.chmod(0o755)
