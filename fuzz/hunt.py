@@ -31,6 +31,7 @@ AGAIN = (0.05, 0.3)
 # The other encodings that are offered first.
 OFFERED = (["utf-8", "utf-16"], ["utf-32", "utf-16"])
 UTF_16 = "utf-16"
+UNSTEADY = "the server answers otherwise each time"
 NO_QUESTIONS = "the server offers none of the questions that the text alone answers"
 
 
@@ -158,7 +159,7 @@ class Hunt:
             self.live = live.__enter__()
             text = Random(self.seed, PLAIN, self.form, self.start).text()
             if not live.calibrate(text):
-                raise Failed(NO_QUESTIONS, 2)
+                raise Failed(UNSTEADY if live.unsteady else NO_QUESTIONS, 2)
             self.is_one_by_one = live.is_one_by_one
         return self.live
 

@@ -4,7 +4,7 @@ from hunts import COMMAND, objects_of, run, run_longer, side_by_side
 from processes import SECONDS
 
 # What an honest server may do.
-KINDS = [[], ["utf-8"], ["utf-32"], ["full"], ["late=0.02"], ["now"]]
+KINDS = [[], ["utf-8"], ["utf-32"], ["full"], ["late=0.02"]]
 # How long it is tried with each seed, in seconds.
 LONG = 600
 

@@ -55,6 +55,7 @@ def answers_faults_of_files(program, place):
 def says_why_nothing_can_be_said(program, place):
     refuses(run(program, server=["/no/such/server"]), 2, "/no/such/server: No such file")
     refuses(run(program, "offerless"), 2, "offers none of the questions")
+    refuses(run(program, "now"), 2, "the server answers otherwise each time")
     refuses(run(program, "none"), 2, "the server wants no changes of documents")
     refuses(run(program, server=["true"]), 2, "true ended with status 0")
     refuses(run("/no/such/lspcheck"), 2, "/no/such/lspcheck: there is no such program")
