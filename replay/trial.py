@@ -17,7 +17,7 @@ from report import shown
 from script import quoted, write
 from search import Search
 from sending import choose
-from servers import Ended, Tape
+from servers import Ended, Tape, TimedOut
 from small_case import log_of, verdict_of
 from witness import notes_on, said_after, sentences_on
 
@@ -100,8 +100,11 @@ class Trial:
         self.comparison, self.crash = Comparison(setting), None
 
     def status(self):
-        with written(self.given.write) as tape:
-            self.replay(tape)
+        try:
+            self.replay()
+        except TimedOut:
+            self.setting.silent.clear()
+            self.replay()
         asked = Asked(self.comparison, self.given.every)
         asked.ask()
         found = self.conclude(asked)
@@ -111,10 +114,10 @@ class Trial:
             self.write_small(first.message.number, first.count, [first.uri])
         return 1 if found or asked.faults_of_log() or self.crash else self.agreed(asked)
 
-    def replay(self, tape):
+    def replay(self):
         """Sends the whole log once. If that ends the server, what precedes is asked about."""
         try:
-            with Run(self.setting, tape) as run:
+            with written(self.given.write) as tape, Run(self.setting, tape) as run:
                 run.advance(len(self.setting.recording.messages))
                 if self.given.jobs is None and run.server.memory() > MUCH_MEMORY:
                     self.setting.slots.most = 1

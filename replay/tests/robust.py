@@ -106,9 +106,12 @@ def says_nothing_of_servers_that_it_killed(program, place):
     temporary.mkdir()
     late.write_text(LATE.format([str(COMMAND.parent.parent / it) for it in ("replay", "page", "recorders")], str(HASTY)))
     process, children = with_muted(program, place, log, late)
-    for number in (signal.SIGTERM, signal.SIGINT, signal.SIGQUIT):
+    started = [int(it) for it in children.read_text().split()]
+    process.send_signal(signal.SIGTERM)
+    # Of several signals that come at once, Python takes the one with the lowest number first.
+    until(lambda: not any(map(is_running, started)))
+    for number in (signal.SIGINT, signal.SIGQUIT):
         process.send_signal(number)
-        time.sleep(0.05)
     ends_as_told(process, signal.SIGTERM)
     written = process.stdout.read().decode().splitlines()
     # What was written before the questions, to which none was answered.

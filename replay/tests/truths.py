@@ -309,7 +309,7 @@ def keeps_what_it_found_when_a_server_is_busy(program, place_of):
         counted.write_text("x" * 0)
         busy = place_of / "busy.py"
         # From the 13th process on: before were the replay and, for the end, three, one and seven.
-        busy.write_text(BUSY.format(str(SERVER[-1]), str(counted)))
+        busy.write_text(BUSY.format(str(SERVER[-1]), str(counted), "> 12", "textDocument/documentSymbol"))
         done = run(program, log, "lose=2", server=[sys.executable, busy], options=["--wait", waits, "--every", 9])
         if done.returncode == 1:
             break
@@ -321,12 +321,25 @@ def keeps_what_it_found_when_a_server_is_busy(program, place_of):
     assert numbers[1] < last, numbers
 
 
+def replays_once_more_where_a_server_is_busy(program, place_of):
+    """The first one does not answer in time, and is left; the second one does."""
+    log, new, counted, busy = (place_of / it for it in ("busy.log", "new.log", "count", "busy.py"))
+    log.write_bytes(opened("a\n").end().log)
+    busy.write_text(BUSY.format(str(SERVER[-1]), str(counted), "< 2", "initialize"))
+    for waits in (2, 8, 32, 128):
+        counted.unlink(missing_ok=True)
+        done = run(program, log, server=[sys.executable, busy], options=["--wait", waits, "--write", new])
+        if done.returncode == 0:
+            break
+    assert done.returncode == 0 and "no difference" in done.stdout and check(program, new) == "yes", done
+
+
 BUSY = """
 import runpy, sys
 with open({1!r}, "a") as file:
     file.write("x")
-    if file.tell() > 12:
-        sys.argv.append("mute=textDocument/documentSymbol")
+    if file.tell() {2}:
+        sys.argv.append("mute={3}")
 runpy.run_path({0!r}, run_name="__main__")
 """
 
@@ -494,6 +507,7 @@ TESTS = [
     runs_as_many_servers_as_it_says,
     names_each_fault_of_an_open,
     keeps_what_it_found_when_a_server_is_busy,
+    replays_once_more_where_a_server_is_busy,
     finds_the_message_that_ends_the_server,
     accuses_no_right_text_for_what_it_sends,
     names_what_shows_in_no_answer,
