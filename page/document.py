@@ -6,6 +6,7 @@ import html
 from pathlib import Path
 
 import blocks
+import checker
 import cuts
 import rules
 from files import MARK
@@ -41,6 +42,8 @@ SCRIPTS = [
     "search.js",
     "main.js",
 ]
+# What a page with the checker has in addition.
+OF_CHECKER = ["again.js"]
 MOST_OF_EXIT = 2_000
 # How many violations are listed in any page; in one with more events, each that it shows is.
 LISTED_ALWAYS = 10_000
@@ -89,14 +92,15 @@ def hash_of(text):
     return f"'sha256-{digest}'"
 
 
-def policy_of(script, style):
+def policy_of(script, style, has_checker):
     return "; ".join([
         "default-src 'none'",
-        f"script-src {hash_of(script)}",
+        f"script-src {hash_of(script)}{f' {checker.OF_SCRIPTS}' if has_checker else ''}",
         f"style-src {hash_of(style)}",
         "base-uri 'none'",
         "form-action 'none'",
         "require-trusted-types-for 'script'",
+        *(checker.POLICY if has_checker else []),
     ])
 
 
@@ -109,13 +113,15 @@ def plain(text):
 class Document:
     """The template, written piece by piece: what belongs into it is known one after the other."""
 
-    def __init__(self, file):
+    def __init__(self, file, has_checker=False):
         self.file = file
         style = (HERE / "page.css").read_text(encoding="utf-8")
-        code = "".join((HERE / "js" / name).read_text(encoding="utf-8") for name in SCRIPTS)
+        names = [*SCRIPTS, *(OF_CHECKER if has_checker else [])]
+        code = "".join((HERE / "js" / name).read_text(encoding="utf-8") for name in names)
         fault = (HERE / "js/fault.js").read_text(encoding="utf-8")
         script = f'"use strict";\n{fault}(async () => {{\n{code}}})().catch(sayFault);\n'
-        self.parts = {"POLICY": policy_of(script, style), "STYLE": style, "SCRIPT": script}
+        policy = policy_of(script, style, has_checker)
+        self.parts = {"POLICY": policy, "STYLE": style, "SCRIPT": script}
         self.pieces = (HERE / "page.html").read_text(encoding="utf-8").split("@")
         self.file.write(MARK)
 
@@ -180,6 +186,7 @@ def index_of(log, said, listing, session):
 def write_page(file, runs, given):
     """Writes the page of a log into a file."""
     version, log, report = version_of(runs.program.path), runs.log, words_of_reports()
+    with_checker = checker.Checker() if given.with_checker else None
     # All at once: a program compiled with checks takes a second for each megabyte.
     listed = runs.start("show", "--all", "--long", "--json")
     all_explained = runs.start("explain", "--all", "--notes", "--json")
@@ -194,7 +201,7 @@ def write_page(file, runs, given):
     if given.small:
         only_first(listing, said)
         texts = texts and cuts.around_difference(texts)
-    page, lines = Document(file), report.lines(said)
+    page, lines = Document(file, given.with_checker), report.lines(said)
     name = plain(log.name or "standard input")
     page.write_until("DATA", NAME=name, REPORT=plain("\n".join(lines)), VERSION=plain(version))
     level = blocks.level_for(log.size)
@@ -217,4 +224,6 @@ def write_page(file, runs, given):
     }
     pieces = blocks.index_pieces(index, session.rows, listing.violations)
     blocks.write_block(file, "session", blocks.compressed(pieces, level))
+    if with_checker:
+        with_checker.write(file, log, level)
     page.write_until(None)

@@ -129,12 +129,17 @@ class Joins:
         return self.open[event.side].get(key, (None, None))
 
 
+def no_constant(word):
+    """Refuses NaN and the infinities, which Python takes for JSON."""
+    raise ValueError(word)
+
+
 def message_of(event, content):
     """The JSON value of a message, or None."""
     if event.side == SNAPSHOT or event.rule in FRAMES:
         return None
     try:
-        return json.loads(content.decode())
+        return json.loads(content.decode(), parse_constant=no_constant)
     except (ValueError, RecursionError):
         return None
 

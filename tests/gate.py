@@ -2,14 +2,16 @@
 
 Alongside the proofs run those that need no program, and those for which it is only a tool, over one
 that is compiled with checks: at most half as many as there are processors, and with less
-priority. What looks at the program itself runs over the proved one, when the proofs have passed, as
-many at a time as there are processors.
+priority. What looks at the program itself runs over the proved one, as soon as that is proved:
+alongside the proofs that are left, and then as many at a time as there are processors.
 """
 
 import os
+import re
 import shutil
 import sys
 import tempfile
+import time
 from pathlib import Path
 
 sys.dont_write_bytecode = True
@@ -39,6 +41,7 @@ GATE = [
     "tests/api/run",
     f"tests/of_checks {ANY}",
     f"page/run {PROVED}",
+    f"web/run --few {PROVED}",
     f"replay/run {ANY}",
     f"fuzz/run {ANY}",
     f"tests/golden/run {PROVED}",
@@ -58,8 +61,25 @@ QUICK = ["tests/guarantees", "tests/links", "tests/words", "tests/run --few", "t
 # What ./run compiles, what it is made of, and what it kept.
 COPIED = ["crates.txt", "crates/*/src/**/*.rt", "run", "tests/*.py", "recorders/*.py", "page/*.py", "out/lspcheck*"]
 
+# What rt ci says when it has proved a crate.
+IS_PROVED = re.compile(rb"^rt: (\w+) proved$", re.MULTILINE)
+
+# How many bytes of what it says are looked at at once, and how many seconds a step takes that is named with its time.
+MOST_SAID, SHOWN = 1 << 20, 3
+
 # The priority that the tests give up for the proofs.
 NICENESS = 10
+
+
+# How many bytes of memory a proof may take.
+PROOF_TAKES = 5_000_000_000
+
+
+def jobs(width):
+    """How many proofs `rt ci` runs at once. If it isn't told, it leaves processors idle, since it expects
+    a proof to need four times the memory that it takes."""
+    memory = os.sysconf("SC_PHYS_PAGES") * os.sysconf("SC_PAGE_SIZE")
+    return max(1, min(width, memory // PROOF_TAKES))
 
 
 class Gate:
@@ -70,6 +90,7 @@ class Gate:
         self.tasks = {it: Task(" ".join(word for word in it.split() if word not in (PROVED, ANY))) for it in commands}
         self.copy = folder / "copy"
         self.width = len(os.sched_getaffinity(0))
+        self.begun, self.proved, self.read = time.monotonic(), {}, 0
 
     def is_over(self, command):
         return command not in self.tasks or self.tasks[command].is_over()
@@ -79,7 +100,7 @@ class Gate:
 
     def programs(self):
         """The programs that there are by now, by the words that stand for them."""
-        if self.has_passed(PROOFS):
+        if self.has_passed(PROOFS) or "lspcheck" in self.proved:
             proved = TOP / "crates/lspcheck/out/lspcheck"
             return {PROVED: proved, ANY: proved}
         return {ANY: self.copy / "out/lspcheck"} if self.has_passed(COMPILES) else {}
@@ -91,6 +112,7 @@ class Gate:
 
     def start(self):
         """Starts each task that may run by now, and gives up those that never will."""
+        self.note_proved()
         found = self.programs()
         for command, task in self.tasks.items():
             lacking = {PROVED, ANY} & set(command.split()) - set(found)
@@ -108,7 +130,8 @@ class Gate:
         words[0] = words[0] if command == PROOFS else str((self.copy if command == COMPILES else TOP) / words[0])
         if ANY in command.split() and PROVED not in found:
             task.title += ", over a program with checks"
-        task.start(words, 0 if command == PROOFS or PROOFS not in self.tasks else NICENESS)
+        settings = {"RT_JOBS": str(jobs(self.width))} if command == PROOFS else {}
+        task.start(words, 0 if command == PROOFS or PROOFS not in self.tasks else NICENESS, **settings)
 
     def lay_out(self):
         """Copies what ./run needs, and the program that it has kept, if any."""
@@ -117,9 +140,30 @@ class Gate:
             target.parent.mkdir(parents=True, exist_ok=True)
             shutil.copy(path, target)
 
+    def minutes(self, moment):
+        return f"{(moment - self.begun) / 60:.1f}"
+
+    def note_proved(self):
+        """Notes when rt ci said of a crate that it has proved it."""
+        if (task := self.tasks.get(PROOFS)) and task.begun:
+            said = os.pread(task.output.fileno(), MOST_SAID, self.read)
+            whole = said[: said.rfind(b"\n") + 1]
+            self.read += len(whole)
+            self.proved |= {it.decode(): time.monotonic() for it in IS_PROVED.findall(whole)}
+
+    def tell_times(self):
+        """Says how long each step took, and when each crate was proved."""
+        steps = [f"{it.name} {it.seconds() / 60:.1f}" for it in self.tasks.values() if it.seconds() >= SHOWN]
+        whole = self.minutes(time.monotonic())
+        print(f"./test: minutes on {self.width} processors: {', '.join([f'{whole} in all', *steps])}")
+        if self.proved:
+            times = (f"{name} {self.minutes(moment)}" for name, moment in self.proved.items())
+            print(f"./test: proved after minutes: {', '.join(times)}")
+
     def told(self):
-        """Says what failed and what was not run, and counts all checks; the status."""
+        """Says where the time went, what failed and what was not run, and counts all checks; the status."""
         tasks = self.tasks.values()
+        self.tell_times()
         for what, names in [
             ("failed", [it.name for it in tasks if it.has_failed()]),
             ("not run", [it.name for it in tasks if it.why_not]),

@@ -23,14 +23,15 @@ UNPROVED = [
     "package/completions/run", "replay/run", "fuzz/run",
 ]
 OVER_PROVED = [
-    "tests/golden/run", "tests/cli/run", "page/run", "tests/shrink/run", "tests/redact/run", "package/run",
+    "tests/golden/run", "tests/cli/run", "page/run", "web/run", "tests/shrink/run", "tests/redact/run", "package/run",
     "tests/faults/run",
 ]
 QUICK = ["tests/guarantees", "tests/links", "tests/words", "tests/of_run", "tests/run"]
 
-# Each script notes that it begins and ends; rt ends after the first of the others. It gets no setting
-# of the caller's Python, and rt no number of jobs. What runs over a program gets its path, and ends if
-# there is none.
+# Each script notes that it begins and ends. rt goes on until one of the others has ended, and after it
+# has said that the program is proved, until one runs over that. None gets a setting of the caller's
+# Python, and rt at most as many jobs as there are processors. What runs over a program gets its path,
+# and ends if there is none.
 STUB = """#!/bin/sh
 top='{top}'
 case {name}$1 in
@@ -43,10 +44,20 @@ tries=0
 while [ {name} = rt ] && [ $tries -lt 999 ] && ! grep -q "^ends" "$top/log"; do tries=$((tries + 1)); sleep 0.1; done
 sleep {seconds}
 echo "ends {name}" >> "$top/log"
-if env | grep -q -e ^PYTHON -e ^RT_JOBS; then exit 1; fi
+if env | grep -q ^PYTHON; then exit 1; fi
+if [ {name} = rt ] && [ "$RT_JOBS" -gt "$(nproc)" ]; then exit 1; fi
 case "$*" in *PROVED*|*ANY*) exit 1;; *[/]lspcheck*) [ -e "${{*#*--few }}" ] || [ -e "${{1}}" ] || exit 1;; esac
 case {name} in
-    rt) mkdir -p crates/lspcheck/out; touch crates/lspcheck/out/lspcheck; echo "40 passed, {status} failed";;
+    rt)
+        mkdir -p crates/lspcheck/out
+        touch crates/lspcheck/out/lspcheck
+        printf 'rt: %s\n' "lsp_types proved" "lsp_rpc NOT PROVED"
+        [ {status} = 1 ] || echo "rt: lspcheck proved"
+        while [ {status} = 0 ] && [ $tries -lt 999 ] && ! grep -q "begins tests/golden/run" "$top/log"; do
+            tries=$((tries + 1)); sleep 0.1
+        done
+        echo "over {name}" >> "$top/log"
+        echo "40 passed, {status} failed";;
     run) mkdir -p "${{0%/*}}/out"; touch "${{0%/*}}/out/lspcheck";;
     tests/words) echo "2 passed, {status} failed";;
 esac
@@ -115,7 +126,7 @@ def named(path):
     more = {
         "rt": "./run --prove ci", "run": "./run --program", "tests/mutants/run": "tests/mutants/run --stale",
         "tests/faults/run": "tests/faults/run --few", "package/completions/run": "package/completions/run bash",
-        "tests/run": "tests/run --few",
+        "tests/run": "tests/run --few", "web/run": "web/run --few",
     }
     return more.get(path, path)
 
@@ -127,6 +138,10 @@ def on_gate():
     count = len(everything) + 40
     good = Made([])
     yield "./test: nothing fails", good.says(0, count, 0) and good.started == everything
+    yield "./test: says how long the proofs took", "./test: proved after minutes: lsp_types 0." in good.run.stdout
+    yield "./test: names no crate that is not proved", "lsp_rpc" not in good.run.stdout.rpartition("proved after")[2]
+    words = [" ".join(it[:2]) for it in good.log]
+    yield "./test: waits for the program, not for all proofs", words.index("begins tests/golden/run") < words.index("over rt")
     yield "./test: each has a head", sorted(map(str, good.heads())) == sorted(everything)
     yield "./test: tests/needs fails", (made := Made([], ["tests/needs"])).run.returncode != 0 and not made.started
     for path in sorted(everything - {"rt"}):

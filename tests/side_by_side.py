@@ -38,6 +38,7 @@ class Task:
         self.name, self.title = name, name
         self.process, self.status, self.why_not = None, None, None
         self.output, self.printed, self.is_named = tempfile.TemporaryFile("a+b"), 0, False
+        self.begun, self.ended = None, None
 
     def is_waiting(self):
         return self.process is None and not self.is_over()
@@ -51,8 +52,9 @@ class Task:
     def has_failed(self):
         return self.status is not None and (self.status != 0 or self.counts()[1] > 0)
 
-    def start(self, words, niceness):
-        how = {"stdin": subprocess.DEVNULL, "stdout": self.output, "stderr": subprocess.STDOUT}
+    def start(self, words, niceness, **settings):
+        how = {"env": {**os.environ, **settings}, "stdin": subprocess.DEVNULL, "stdout": self.output, "stderr": subprocess.STDOUT}
+        self.begun = time.monotonic()
         try:
             with held():
                 self.process = subprocess.Popen(words, preexec_fn=lambda: os.nice(niceness), **how)
@@ -60,6 +62,10 @@ class Task:
             self.output.write(f"{words[0]}: {error.strerror}\n".encode())
             self.output.flush()
             self.status = 127
+
+    def seconds(self):
+        """How long it took."""
+        return self.ended - self.begun if self.ended else 0
 
     def counts(self):
         """How many checks passed and failed: as its last line says, or else it is one check."""
@@ -98,6 +104,7 @@ def reap(tasks):
             for task in tasks:
                 if task.is_running() and task.process.pid == ended[0]:
                     task.status = task.process.returncode = os.waitstatus_to_exitcode(ended[1])
+                    task.ended = time.monotonic()
 
 
 def show(tasks):

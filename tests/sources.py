@@ -109,10 +109,10 @@ def differing(paths):
     return None if said is None else [line[3:] for line in said.splitlines()]
 
 
-def commit_in_words():
+def commit_in_words(paths=COMPILED):
     """The commit of what the program is compiled from, as its --version names it; nothing if it is
     not known."""
-    found, changed = commit(), differing(COMPILED)
+    found, changed = commit(), differing(paths)
     if found is None or changed is None:
         return ""
     return f", commit {found[:12]}{' with changes' if changed else ''}"

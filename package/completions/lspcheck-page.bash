@@ -2,7 +2,7 @@
 # /usr/share/bash-completion/completions/lspcheck-page.
 
 _lspcheck_page() {
-    local options="-o --program --most-events --most-bytes --small --version --help -h"
+    local options="-o --program --most-events --most-bytes --small --with-checker --version --help -h"
     local word=${COMP_WORDS[COMP_CWORD]} previous=${COMP_WORDS[COMP_CWORD - 1]}
     local given=" " option offered="" at
     for ((at = 1; at < COMP_CWORD; at++)); do

@@ -9,6 +9,7 @@ end
 complete -c lspcheck-page -s h -l help -d 'Print help'
 complete -c lspcheck-page -n 'not contains -- --version (commandline -opc)' -l version -d 'Print the version'
 complete -c lspcheck-page -n 'not contains -- --small (commandline -opc)' -l small -d 'Show only the first violation and what led to it'
+complete -c lspcheck-page -n 'not contains -- --with-checker (commandline -opc)' -l with-checker -d 'Put lspcheck itself into the page'
 complete -c lspcheck-page -n '__lspcheck_page_option -o' -s o -r -d 'Write the page to this file'
 complete -c lspcheck-page -n '__lspcheck_page_option --program' -l program -r -d 'The lspcheck to run'
 complete -c lspcheck-page -n '__lspcheck_page_option --most-events' -l most-events -x -d 'Cut a log with more events'

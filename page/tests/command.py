@@ -205,6 +205,9 @@ def says_what_is_wrong_with_words(program, place):
     answers(run(EXAMPLE, "--bogus"), 64, "--bogus")
     answers(run(EXAMPLE, "--most-events", "0"), 64, "0 is not a number from 1")
     answers(run(EXAMPLE, "--\x1b[31m"), 64, "--?[31m")
+    answers(run(EXAMPLE, "--small", "--with-checker"), 64, "exclude each other")
+    nowhere = {**os.environ, "LSPCHECK_WEB": str(place)}
+    answers(run(EXAMPLE, "--with-checker", "--program", program, env=nowhere), 1, "lspcheck.wasm: package/wasm builds it")
     help_text = run("--help")
     assert help_text.returncode == 0 and "--program" in help_text.stdout
 

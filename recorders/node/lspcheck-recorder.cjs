@@ -23,6 +23,9 @@ const version = "1.0.0";
 // The most bytes that one record may hold.
 const MOST = 1048576;
 
+// lspcheck for Node, if there is a copy next to this file: for systems that have no program.
+const FOR_NODE = join(__dirname, "lspcheck.mjs");
+
 // The log that was last created for each path.
 const created = new Map();
 
@@ -201,21 +204,39 @@ function record(child, path) {
   return log;
 }
 
-function program() {
-  return process.env.LSPCHECK || "lspcheck";
+/** The programs to try, each with its first words: that which is named, or the one on the PATH and
+ * then the one for Node. */
+function programs() {
+  const found = [process.env.LSPCHECK || "lspcheck"];
+  if (!process.env.LSPCHECK && fs.existsSync(FOR_NODE)) {
+    found.push(FOR_NODE);
+  }
+  return found.map((path) => (path.endsWith(".mjs") ? [process.execPath, path] : [path]));
+}
+
+/** Runs the first program that there is. */
+function spawned(words) {
+  let ended;
+  for (const [program, ...first] of programs()) {
+    ended = spawnSync(program, [...first, ...words], { encoding: "utf8", maxBuffer: Infinity });
+    if (!ended.error || ended.error.code !== "ENOENT") {
+      break;
+    }
+  }
+  return ended;
 }
 
 /** Whether there is a program to check logs with, so that tests without one can be skipped. */
 function isInstalled() {
-  return spawnSync(program(), ["--version"]).error === undefined;
+  return spawned(["--version"]).error === undefined;
 }
 
 /** Runs lspcheck. */
 function run(...words) {
-  const ended = spawnSync(program(), words, { encoding: "utf8", maxBuffer: Infinity });
+  const ended = spawned(words);
   if (ended.error && ended.error.code === "ENOENT") {
     ended.error.message =
-      `ENOENT: no program ${program()}: put lspcheck on the PATH, name it in LSPCHECK, ` +
+      `ENOENT: no program ${programs()[0][0]}: put lspcheck on the PATH, name it in LSPCHECK, ` +
       "or skip the test: test(name, { skip: !isInstalled() }, ..)";
   }
   if (ended.error) {

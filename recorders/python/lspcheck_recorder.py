@@ -31,6 +31,9 @@ NO_LINK = getattr(os, "O_NOFOLLOW", 0)
 # The most bytes that one record may hold.
 MOST = 1048576
 
+# lspcheck for Node, if there is a copy next to this file: for systems that have no program.
+FOR_NODE = os.path.join(os.path.dirname(os.path.abspath(__file__)), "lspcheck.mjs")
+
 READS = {"read", "read1", "readline", "readexactly", "readuntil"}
 
 # What may come before the server in a command: `env` and its options, a shell, Python that runs a
@@ -219,24 +222,29 @@ def record(child: Any, path: str | os.PathLike[str]) -> Log:
     return log
 
 
-def program() -> str:
-    return os.environ.get("LSPCHECK") or "lspcheck"
+def command() -> list[str]:
+    """The words that start lspcheck: the program that is named, the one on the PATH, or that for
+    Node next to this file."""
+    path = os.environ.get("LSPCHECK") or "lspcheck"
+    if path == "lspcheck" and shutil.which(path) is None and os.path.exists(FOR_NODE):
+        path = FOR_NODE
+    return ["node", path] if path.endswith(".mjs") else [path]
 
 
 def is_installed() -> bool:
     """Whether there is a program to check logs with, so that tests without one can be skipped."""
-    return shutil.which(program()) is not None
+    return shutil.which(command()[0]) is not None
 
 
 def run(*words: str) -> tuple[int, str]:
     """The status of lspcheck, and what it writes."""
     try:
         pipes = {"stdout": subprocess.PIPE, "stderr": subprocess.STDOUT}
-        ended = subprocess.run([program(), *words], **pipes)  # type: ignore[call-overload]
+        ended = subprocess.run([*command(), *words], **pipes)  # type: ignore[call-overload]
     except FileNotFoundError as error:
         what = "no such program: put lspcheck on the PATH, name it in LSPCHECK, or skip the test"
         what += ' with @unittest.skipUnless(is_installed(), "no lspcheck")'
-        raise FileNotFoundError(error.errno, what, program()) from None
+        raise FileNotFoundError(error.errno, what, command()[0]) from None
     return ended.returncode, ended.stdout.decode()
 
 

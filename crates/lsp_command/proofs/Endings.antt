@@ -9,8 +9,8 @@ use Rattle.lsp_verdict.specs.declared.outcome.RunFault.{RunFault}
 use Rattle.lsp_replay.specs.Run.{PassesOn, Run}
 use Rattle.lsp_command.specs.Tasks.{Answers, RanTask}
 use Rattle.lsp_command.specs.Tasks.{of_event, of_run}
-use Rattle.lsp_command.specs.declared.command_line.task.Task.{Task}
-use Rattle.lsp_command.specs.declared.task_outcome.TaskOutcome.{TaskOutcome}
+use Rattle.lsp_request.specs.declared.command_line.task.Task.{Task}
+use Rattle.lsp_request.specs.declared.task_outcome.TaskOutcome.{TaskOutcome}
 
 module _ (limits : Bounds) (task : Task) (p : Ports) (result : Result TaskOutcome RunFault) where
   -- what is counted after this end is counted after this result

@@ -1,5 +1,1 @@
-pub mod Appended
 pub mod Endings
-pub mod Fronts
-pub mod Asked
-pub mod Found

@@ -28,16 +28,16 @@ use Rattle.lsp_explain.specs.NotedRun.{noted_run}
 use Rattle.lsp_redact.specs.Redacting.{redact_run}
 use Rattle.lsp_survey.specs.KeptText.{kept_text_run}
 use Rattle.lsp_survey.specs.SurveyRun.{report_run, show_all_run}
-use Rattle.lsp_command.specs.declared.task_outcome.TaskOutcome.{TaskOutcome}
-use Rattle.lsp_command.specs.declared.task_outcome.TaskOutcome.TheVariants as outcomes
-use Rattle.lsp_command.specs.declared.command_line.task.Explanation.TheVariants as explanations
-use Rattle.lsp_command.specs.declared.command_line.task.Extent.TheVariants.{All, First}
-use Rattle.lsp_command.specs.declared.command_line.task.Report.TheVariants as reports
-use Rattle.lsp_command.specs.declared.command_line.task.Rewrite.TheVariants.{Normal, Redact, Upgrade}
-use Rattle.lsp_command.specs.declared.command_line.task.Task.{Task}
-use Rattle.lsp_command.specs.declared.command_line.task.Task.TheVariants.{Check, Compared, Event}
-use Rattle.lsp_command.specs.declared.command_line.task.Task.TheVariants.{Explain, Frames, Rewrite}
-use Rattle.lsp_command.specs.declared.command_line.task.Task.TheVariants.{Show, Text}
+use Rattle.lsp_request.specs.declared.task_outcome.TaskOutcome.{TaskOutcome}
+use Rattle.lsp_request.specs.declared.task_outcome.TaskOutcome.TheVariants as outcomes
+use Rattle.lsp_request.specs.declared.command_line.task.Explanation.TheVariants as explanations
+use Rattle.lsp_request.specs.declared.command_line.task.Extent.TheVariants.{All, First}
+use Rattle.lsp_request.specs.declared.command_line.task.Report.TheVariants as reports
+use Rattle.lsp_request.specs.declared.command_line.task.Rewrite.TheVariants.{Normal, Redact, Upgrade}
+use Rattle.lsp_request.specs.declared.command_line.task.Task.{Task}
+use Rattle.lsp_request.specs.declared.command_line.task.Task.TheVariants.{Check, Compared, Event}
+use Rattle.lsp_request.specs.declared.command_line.task.Task.TheVariants.{Explain, Frames, Rewrite}
+use Rattle.lsp_request.specs.declared.command_line.task.Task.TheVariants.{Show, Text}
 
 -- ---- how a task ends, by how its run ended
 

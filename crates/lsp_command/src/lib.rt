@@ -1,45 +1,19 @@
-//! From the words of the command line to a run, and from the end of the run to a status and to what
-//! is written about it to standard error.
+//! The run of a request, over any source and sink, or over a file and standard output.
 //!
-//! `request_of` reads the words (module `command_line`), `run_task` does what they ask for over any
-//! source and sink, and `run_through` does it over a file or standard input and into
-//! standard output. `status_of_task` is the table of statuses, to which `status_of_request` adds
-//! what a request asks of a Yes. `remark_of`, `report_apart` and `hint_of` are what a user reads on
-//! standard error, where names are shown as `quoted_name` and `shown_text` give them.
+//! `run_task` does what a task asks for over any source and sink, and `run_through` does it over a
+//! file or standard input and into standard output: each task is the run of its name.
+//!
+//! What is requested, the input, the output and what the end of a task means are in `lsp_request`,
+//! whose public names are exported again here.
 #![tactic(auto)]
 
-mod beginning;
-mod command_line;
-mod device;
-mod hint;
-mod input;
-mod io_state;
-mod output;
-mod pace;
-mod reader;
-mod remark;
 mod run;
-mod shown;
-mod status;
-mod task_outcome;
-mod watch;
-mod writer;
 
-pub use beginning::Beginning;
-pub use command_line::{
-    Conflict, Explanation, Extent, Report, Request, Rewrite, Slip, Task, conflict_of, file_of,
-    only_word, quoted_name, request_of, uri_alone,
-};
-pub use hint::{Hint, hint_of};
-pub use input::BufferedInput;
 pub use lsp_replay::Form;
-pub use output::BufferedOutput;
-pub use pace::{Pace, Supply};
-pub use remark::{remark_of, report_apart};
-pub use run::{run_task, run_through};
-pub use shown::shown_text;
-pub use status::{
-    lacks_comparison, status_of, status_of_request, status_of_task, status_of_words, worse_of,
+pub use lsp_request::{
+    Beginning, BufferedInput, BufferedOutput, Conflict, Explanation, Extent, Hint, Pace, Report,
+    Request, Rewrite, Slip, Supply, Task, TaskOutcome, Unwatched, Watch, conflict_of, file_of,
+    hint_of, lacks_comparison, only_word, quoted_name, remark_of, report_apart, request_of,
+    shown_text, status_of, status_of_request, status_of_task, status_of_words, uri_alone, worse_of,
 };
-pub use task_outcome::TaskOutcome;
-pub use watch::{Unwatched, Watch};
+pub use run::{run_task, run_through};

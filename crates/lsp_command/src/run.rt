@@ -4,24 +4,22 @@ ghost use Rattle.lsp_judge.specs.Checked.{Checked};
 ghost use Rattle.lsp_judge.specs.ShownLog.{Showed};
 ghost use Rattle.lsp_verdict.specs.Runs.{ports};
 ghost use Rattle.lsp_verdict.specs.declared.outcome.RunFault.TheVariants as faults;
-ghost use Rattle.lsp_command.specs.Ports.{input_error, late_error, output_error, unwritten};
-ghost use Rattle.lsp_command.specs.Tasks.{RanTask, RanThrough, handed_on, of_run};
-ghost use Rattle.lsp_command.specs.declared.command_line.task.Task.TheVariants as tasks;
+ghost use Rattle.lsp_request.specs.Ports.{input_error, late_error, output_error, unwritten};
+ghost use Rattle.lsp_command.specs.Tasks.{RanTask, RanThrough, handed_on, of_event, of_run};
+ghost use Rattle.lsp_request.specs.declared.command_line.task.Task.TheVariants as tasks;
 
-use crate::command_line::{Explanation, Extent, Report, Rewrite, Task};
-use crate::input::BufferedInput;
-use crate::output::BufferedOutput;
-use crate::task_outcome::{TaskOutcome, of_event, of_run};
-use crate::watch::Watch;
 use lsp_explain::{run_compared, run_explain, run_explain_all, run_explain_noted};
 use lsp_frame::{Failed, Limits, Sink, Source};
 use lsp_judge::{
-    Completeness, Lines, Outcome, RunFault, run_check, run_check_complete, run_check_json,
-    run_check_line, run_check_object, run_event, run_frames, run_normal, run_show, run_show_json,
-    run_show_long, run_text, run_upgrade,
+    Completeness, EventOutcome, Lines, Outcome, RunFault, run_check, run_check_complete,
+    run_check_json, run_check_line, run_check_object, run_event, run_frames, run_normal, run_show,
+    run_show_json, run_show_long, run_text, run_upgrade,
 };
 use lsp_redact::run_redact;
 use lsp_replay::Form;
+use lsp_request::{
+    BufferedInput, BufferedOutput, Explanation, Extent, Report, Rewrite, Task, TaskOutcome, Watch,
+};
 use lsp_survey::{run_show_all, run_survey, run_text_all};
 use std::alloc::Global;
 use std::io::{Read, Write};
@@ -58,6 +56,26 @@ pub fn run_task<R: Source, W: Sink>(
         Task::Event { number } => of_event(run_event(alloc, source, sink, limits, number.get())),
         Task::Rewrite(how) => of_run(rewrite(alloc, source, sink, limits, how)),
         Task::Frames(mode) => of_run(run_frames(alloc, source, sink, limits, mode)),
+    }
+}
+
+/// How a task ended whose run over a log or a stream ended so.
+fn of_run(ended: Result<Outcome, RunFault>) -> Result<TaskOutcome, RunFault>
+    ensures { result ≡ of_run ended }
+{
+    match ended {
+        Ok(outcome) => Ok(TaskOutcome::Run(outcome)),
+        Err(fault) => Err(fault),
+    }
+}
+
+/// How a task ended whose run for one event ended so.
+fn of_event(ended: Result<EventOutcome, RunFault>) -> Result<TaskOutcome, RunFault>
+    ensures { result ≡ of_event ended }
+{
+    match ended {
+        Ok(outcome) => Ok(TaskOutcome::Event(outcome)),
+        Err(fault) => Err(fault),
     }
 }
 

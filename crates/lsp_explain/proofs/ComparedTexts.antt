@@ -27,7 +27,7 @@ use Rattle.lsp_verdict.proofs.Offences.Offending.{all_are_kept}
 use Rattle.lsp_explain.specs.Compared.{AnswersCompared, answer_after, answer_at, answer_behind}
 use Rattle.lsp_explain.specs.Compared.{answer_of, one_of, sound_answer}
 use Rattle.lsp_explain.specs.ExplainLaws.{ComparedTextIsOfSurvey}
-use Rattle.lsp_explain.specs.declared.compared.ComparedText.{ComparedText}
+use Rattle.lsp_facts.specs.declared.two_texts.ComparedText.{ComparedText}
 use Rattle.lsp_explain.proofs.Comparing.{answer_is}
 
 -- ---- the first event that offends

@@ -22,7 +22,7 @@ use Rattle.lsp_verdict.specs.Verdict.{offence}
 use Rattle.lsp_verdict.specs.declared.counts.Counts.{Counts}
 use Rattle.lsp_verdict.proofs.Offences.Steps.{kept-refused}
 use Rattle.lsp_explain.specs.Compared.{answer_after, answer_of}
-use Rattle.lsp_explain.specs.declared.compared.ComparedText.{ComparedText}
+use Rattle.lsp_facts.specs.declared.two_texts.ComparedText.{ComparedText}
 
 -- ---- the first event that offends
 

@@ -17,8 +17,8 @@ use Rattle.lsp_verdict.specs.Shown.{TextAnswer, text_is, no_difference, refused}
 use Rattle.lsp_verdict.specs.Survey.{IsSurvey}
 use Rattle.lsp_verdict.specs.Verdict.{Summary, Verdict, bad_log_of, offence}
 use Rattle.lsp_verdict.specs.declared.completeness.Completeness.TheVariants.{Ignored}
-use Rattle.lsp_explain.specs.declared.compared.ComparedText.{ComparedText}
-use Rattle.lsp_explain.specs.declared.compared.ComparedText.TheVariants.{ByMessages, InEditor}
+use Rattle.lsp_facts.specs.declared.two_texts.ComparedText.{ComparedText}
+use Rattle.lsp_facts.specs.declared.two_texts.ComparedText.TheVariants.{ByMessages, InEditor}
 
 -- what is asked of the run
 abbrev pub ComparedAsked : Type 0

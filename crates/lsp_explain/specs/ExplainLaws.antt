@@ -21,7 +21,7 @@ use Rattle.lsp_explain.specs.ExplainRuns.{all_run, end_explanation, end_verdict,
 use Rattle.lsp_explain.specs.ExplainRuns.{first_lines}
 use Rattle.lsp_origins.specs.Explained.{Explained, all_closing, cause_lines}
 use Rattle.lsp_notes.specs.Notes.{note_lines, notes_by, noticed_by}
-use Rattle.lsp_explain.specs.declared.compared.ComparedText.{ComparedText}
+use Rattle.lsp_facts.specs.declared.two_texts.ComparedText.{ComparedText}
 use Rattle.lsp_explain.specs.NotedRun.{noted_run}
 use Rattle.lsp_trail.specs.Breaches.{Breach}
 

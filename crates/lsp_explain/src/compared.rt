@@ -10,22 +10,13 @@ ghost use Rattle.lsp_verdict.specs.Verdict.{bad_log_of, first_no};
 ghost use Rattle.lsp_explain.specs.Compared as spec;
 ghost use Rattle.lsp_explain.specs.Compared.{ComparedAsked, compared_run, sound_answer};
 
-use lsp_facts::{TwoTexts, texts_at};
+use lsp_facts::{ComparedText, TwoTexts, texts_at};
 use lsp_frame::{Limits, Sink, Source};
 use lsp_lined::Lined;
 use lsp_replay::{Account, End, Events, Fate, Flow, LogEvents, Seen, TextAnswer, pass};
 use lsp_rpc::Result;
 use lsp_verdict::{Outcome, RunFault, Verdict};
 use std::alloc::Global;
-
-/// Which of two texts that differ.
-#[derive(Clone, Copy, Debug, PartialEq, Eq)]
-pub enum ComparedText {
-    /// The one that the messages make.
-    ByMessages,
-    /// The one that the editor saved, or that a snapshot has.
-    InEditor,
-}
 
 /// Reads a log up to the first event that offends, and writes one of the two texts that differ, and
 /// nothing else, where that event offends by 608 or 702.

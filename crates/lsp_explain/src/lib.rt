@@ -15,7 +15,7 @@ mod run;
 mod run_all;
 mod run_noted;
 
-pub use compared::{ComparedText, run_compared};
+pub use compared::run_compared;
 pub use laws::{
     all_explained_answers_verdict, all_explained_are_causes, compared_at_its_end,
     compared_text_is_of_survey, explanation_answers_verdict, explanation_at_its_end,

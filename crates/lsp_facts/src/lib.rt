@@ -52,5 +52,5 @@ pub use lines::{
     push_bare_event, push_content_event, push_details, push_end_event, push_message_event,
 };
 pub use messages::{id_in, session_facts};
-pub use two_texts::{TwoTexts, texts_at, texts_of};
+pub use two_texts::{ComparedText, TwoTexts, texts_at, texts_of};
 pub use waiting::refuting;

@@ -30,6 +30,15 @@ pub struct TwoTexts<'a, S: TextStore> {
     pub in_editor: &'a str,
 }
 
+/// Which of two texts that differ.
+#[derive(Clone, Copy, Debug, PartialEq, Eq)]
+pub enum ComparedText {
+    /// The one that the messages make.
+    ByMessages,
+    /// The one that the editor saved, or that a snapshot has.
+    InEditor,
+}
+
 /// The two texts of an event that offends by this rule and says this about a document, where it has
 /// any; this was tried of its changes.
 pub fn texts_at<'a>(

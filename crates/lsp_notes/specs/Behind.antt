@@ -8,7 +8,7 @@ use Rattle.lsp_docs.specs.Calls.{Call, uri_of}
 use Rattle.lsp_docs.specs.Documents.{Terms}
 use Rattle.lsp_outline.specs.Named.{named_in}
 use Rattle.lsp_replay.specs.Telling.{kept_before, rule_of}
-use Rattle.lsp_survey.specs.Notes.{has_uri}
+use Rattle.lsp_uris.specs.Held.{has_uri}
 use Rattle.lsp_types.specs.declared.rules.TheConstants as rules
 use Rattle.lsp_types.specs.declared.side.Side.TheVariants.{Editor, Server}
 use Rattle.lsp_verdict.specs.Event.{calls}

@@ -6,7 +6,7 @@ ghost use Rattle.lsp_docs.specs.Documents.{Terms};
 ghost use Rattle.lsp_docs.specs.State.{Stands};
 ghost use Rattle.lsp_docs.specs.Taken.{call_view};
 ghost use Rattle.lsp_replay.specs.Telling.{IsSeen};
-ghost use Rattle.lsp_survey.specs.Notes.{has_uri};
+ghost use Rattle.lsp_uris.specs.Held.{has_uri};
 ghost use Rattle.lsp_verdict.specs.Given.{raw_view};
 ghost use Rattle.lsp_verdict.specs.Heard.{Heard};
 ghost use Rattle.lsp_verdict.specs.Offences.{is_reopened};
@@ -19,8 +19,8 @@ use lsp_lined::Lined;
 use lsp_outline::document_of;
 use lsp_replay::{Events, Fate, Seen};
 use lsp_rpc::{Result, Side};
-use lsp_survey::{Uris, add_uri, forget_uri, renews, reopens, sets_text};
 use lsp_types::rules;
+use lsp_uris::{Uris, add_uri, forget_uri, renews, reopens, sets_text};
 use lsp_verdict::Raw;
 use std::alloc::Global;
 

@@ -27,8 +27,8 @@ use lsp_lined::Lined;
 use lsp_outline::DocumentVersion;
 use lsp_replay::{EventPlace, Events, Seen};
 use lsp_rpc::{Result, push_quoted};
-use lsp_survey::folded;
 use lsp_trail::{DocumentEvent, Openings, Trail, if_unopened, is_spelled, stands_open};
+use lsp_uris::folded;
 use lsp_verdict::Raw;
 use std::alloc::Global;
 

@@ -13,9 +13,9 @@ use lsp_docs::Call;
 use lsp_facts::Facts;
 use lsp_replay::EventPlace;
 use lsp_rpc::Result;
-use lsp_survey::folded;
 use lsp_trail::{Closing, DocumentEvent, Past, is_spelled, stands_open};
 use lsp_types::rules;
+use lsp_uris::folded;
 
 /// Adds to the facts on a call that breaks this rule, under 602, how the document of which it
 /// speaks was closed, and saved since, and which documents with a similar URI are open. The past is

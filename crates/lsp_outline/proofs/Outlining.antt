@@ -1,9 +1,8 @@
 -- The message that its members make, apart from what its params and its result hold.
 use Rattle.std.proofs.Common.{◌≡◌, inl, inr, ℕ, ℤ, List, Bool, true, false, Option, Some, None}
-use Rattle.std.proofs.Common.{option_map, option_and_then, codes, bytes_eq, true≢false, refl, sym}
+use Rattle.std.proofs.Common.{option_map, option_and_then, codes, true≢false, refl, sym}
 use Rattle.std.proofs.Common.{ap, ◌∙◌}
 use Rattle.std.specs.Prelude.{◌⊎◌, is_some, unwrap_or}
-use Rattle.std.proofs.lemmas.Slice.Eq.{bytes_eq-Decides}
 use Rattle.serde_json.specs.Data.{Data, null, boolean, number, string, array, object, Members}
 use Rattle.serde_json.specs.Find.{get_member}
 use Rattle.lsp_rpc.specs.Ident.{Ident}
@@ -18,9 +17,6 @@ use Rattle.lsp_outline.specs.declared.outline.Results.{Results}
 use Rattle.lsp_outline.specs.declared.outline.Results.TheVariants.{LeftOut}
 use Rattle.lsp_outline.specs.Outlined.{id_in, call_in, response_in, lacks_result, Tells, IsLeft}
 use Rattle.lsp_outline.specs.declared.params.Told.{Told}
-
-pub differ : (q k : List ℕ) → bytes_eq q k ≡ false → q ≡ k → ⊥
-differ q k h e = true≢false (sym ((bytes_eq-Decides q k).1 e) ∙ h)
 
 -- ---- what is there
 

@@ -12,10 +12,10 @@ ghost use Rattle.lsp_rpc.specs.Params as shapes;
 ghost use Rattle.lsp_types.specs.declared.side.Side.TheVariants.{Editor};
 
 use crate::edits::integer_unless_null_at;
-use crate::members::{Gathered, keep, object_at, skipped, text_into};
-use crate::walk::string_copy;
+use crate::members::{Gathered, keep, object_at, text_into};
 use lsp_rpc::{Memory, integer_at, text_at};
 use lsp_types::Side;
+use lsp_walk::{skipped, string_copy};
 use serde_json::{Error, Value};
 use std::alloc::Global;
 

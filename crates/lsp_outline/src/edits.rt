@@ -6,14 +6,11 @@ ghost use Rattle.serde_json.specs.Data.{Data, Members, Items, object, array};
 ghost use Rattle.lsp_rpc.specs.Params as spec;
 ghost use Rattle.lsp_rpc.specs.Shape.{as_integer, unless_null};
 ghost use Rattle.lsp_rpc.specs.View.{change_view, changes_view};
-ghost use Rattle.lsp_outline.specs.Walk.{IsValue, AreItems};
+ghost use Rattle.lsp_walk.specs.Walk.{IsValue, AreItems};
 
-use crate::bytes::{byte_at, spaces_end};
-use crate::members::{Gathered, integer_at, keep, object_at, object_into, skipped, uinteger_at};
-use crate::numbers::digit_at;
-use crate::positions::range_at;
-use crate::walk::{literal_end, string_copy};
+use crate::members::{Gathered, integer_at, keep, object_at, object_into, uinteger_at};
 use lsp_types::{Change, Position, Span};
+use lsp_walk::{byte_at, digit_at, literal_end, range_at, skipped, spaces_end, string_copy};
 use std::alloc::Global;
 
 /// The members of a position.

@@ -7,20 +7,13 @@
 //! params, and `version_of` which version of one.
 #![tactic(auto)]
 
-mod bytes;
 mod document;
 mod edits;
 mod members;
 mod message;
-mod number_blocks;
-mod numbers;
+mod negative_numbers;
 mod outline;
 mod params;
-mod positions;
-mod runs;
-mod texts;
-mod tries;
-mod walk;
 
 pub use document::{DocumentVersion, document_of, version_of};
 pub use outline::{MessageReader, Results};

@@ -8,13 +8,13 @@ ghost use Rattle.serde_json.specs.Read.{read as read_text};
 ghost use Rattle.lsp_rpc.specs.Ident.{id_view};
 ghost use Rattle.lsp_rpc.specs.Params.{if_given};
 ghost use Rattle.lsp_rpc.specs.Shape.{as_id, as_integer, unless_null};
-ghost use Rattle.lsp_outline.specs.Walk.{IsValue, AreMembers};
+ghost use Rattle.lsp_walk.specs.Walk.{IsValue, AreMembers};
 
-use crate::bytes::{byte_at, spaces_end};
-use crate::numbers::{natural_at, negative_at};
-use crate::tries::Tries;
-use crate::walk::{MAX_DEPTH, key, literal_end, plain_string, string_copy, value_end};
+use crate::negative_numbers::negative_at;
 use lsp_rpc::Id;
+use lsp_walk::{
+    MAX_DEPTH, byte_at, key, literal_end, natural_at, plain_string, spaces_end, string_copy,
+};
 use std::alloc::Global;
 
 /// What is wanted of an object's members. Of members with one name the last counts.
@@ -145,16 +145,6 @@ pub(crate) fn text_into<T: Gathered>(alloc: Global, text: &str, gathered: &mut T
         return None;
     }
     Some(())
-}
-
-/// Where the value that begins there ends, of which nothing is wanted.
-#[inline(never)]
-pub(crate) fn skipped(text: &str, from: usize, depth: usize) -> Option<usize>
-    requires { from ≤ length text.now }
-    ensures { IfSome result (λ end. (d : Data) × IsValue depth text.now from end d) }
-{
-    let mut tries = Tries::new();
-    value_end(text.as_bytes(), from, depth, &mut tries)
 }
 
 /// Where the string that begins there ends, where it is this one.

@@ -4,19 +4,18 @@ ghost use Rattle.std.specs.Prelude.{◌≡◌, ◌≤◌, ℕ, length, true, Som
 ghost use Rattle.std.specs.Prelude.{string_bytes};
 ghost use Rattle.serde_json.specs.Data.{Data, Members, no_members, object};
 ghost use Rattle.lsp_outline.specs.Outlined.{AreOutlined, IsLeft, id_in, call_in, response_in};
-ghost use Rattle.lsp_outline.specs.Walk.{IsValue};
+ghost use Rattle.lsp_walk.specs.Walk.{IsValue};
 ghost use Rattle.lsp_rpc.specs.Ident.{id_view};
 ghost use Rattle.lsp_rpc.specs.Params as params;
 ghost use Rattle.lsp_rpc.specs.Reading as reading;
 ghost use Rattle.lsp_rpc.specs.Shape.{as_integer, holds_of, is_string, member};
 ghost use Rattle.lsp_rpc.specs.View.{message_view};
 
-use crate::bytes::byte_at;
-use crate::members::{Gathered, given_text, id_at, integer_at, keep, object_at, skipped};
+use crate::members::{Gathered, given_text, id_at, integer_at, keep, object_at};
 use crate::params::{Told, params_at};
-use crate::walk::{literal_end, string_copy, string_end};
 use lsp_rpc::{Answer, Id, Message, Method, notification_method, request_method};
 use lsp_types::Side;
+use lsp_walk::{byte_at, literal_end, skipped, string_copy, string_end};
 use serde_json::Value;
 use std::alloc::Global;
 

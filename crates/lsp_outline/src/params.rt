@@ -6,7 +6,7 @@ ghost use Rattle.serde_json.specs.Data.{Data, Members, object};
 ghost use Rattle.serde_json.specs.Find.{as_str, get_member};
 ghost use Rattle.lsp_outline.specs.Told as spec;
 ghost use Rattle.lsp_outline.specs.Told.{act_told, meant_by};
-ghost use Rattle.lsp_outline.specs.Walk.{IsValue};
+ghost use Rattle.lsp_walk.specs.Walk.{IsValue, kind_of};
 ghost use Rattle.lsp_rpc.specs.Act.{did_open, did_change, did_close, did_save};
 ghost use Rattle.lsp_rpc.specs.Ident.{id_view};
 ghost use Rattle.lsp_rpc.specs.Methods.{meaning};
@@ -14,14 +14,13 @@ ghost use Rattle.lsp_rpc.specs.Params as params;
 ghost use Rattle.lsp_rpc.specs.Shape.{as_id, is_structure_or_null, unless_null};
 ghost use Rattle.lsp_rpc.specs.View.{act_view, changes_view};
 
-use crate::bytes::byte_at;
 use crate::edits::changes_at;
 use crate::members::{
-    Gathered, id_at, keep, object_at, object_into, skipped, text_unless_null_at, uinteger_at,
+    Gathered, id_at, keep, object_at, object_into, text_unless_null_at, uinteger_at,
 };
-use crate::walk::{kind_at, string_copy};
 use lsp_rpc::{Act, Id, Method};
 use lsp_types::Change;
+use lsp_walk::{Kind, byte_at, kind_at, skipped, string_copy};
 use std::alloc::Global;
 
 /// The members of a text document's item or identifier.
@@ -265,6 +264,13 @@ fn act_at(
     }
 }
 
+/// Whether params may be of this kind (JSON-RPC 2.0, section 4.2); null stands for none.
+fn fits_params(kind: Kind) -> bool
+    ensures { (d : Data) → kind ≡ kind_of d → result ≡ is_structure_or_null d }
+{
+    !matches!(kind, Kind::Plain)
+}
+
 /// Where the params end that begin there, where they are an array, an object or null.
 fn params_end(text: &str, from: usize, depth: usize) -> Option<usize>
     requires { from ≤ length text.now }
@@ -272,7 +278,7 @@ fn params_end(text: &str, from: usize, depth: usize) -> Option<usize>
         × (is_structure_or_null d ≡ true)) }
 {
     let end = skipped(text, from, depth)?;
-    if kind_at(byte_at(text.as_bytes(), from)).fits_params() {
+    if fits_params(kind_at(byte_at(text.as_bytes(), from))) {
         Some(end)
     } else {
         None

@@ -34,8 +34,8 @@ use Rattle.lsp_redact.specs.Names.{Names, joined, names_in, names_of, no_names}
 use Rattle.lsp_redact.specs.Naming.{Begins, Stands, Writes}
 use Rattle.lsp_redact.specs.Records.{most_of, records_of, written}
 use Rattle.lsp_redact.specs.Redacting.{AddsLast, Ends, IsFaultOf, SaysOf, apart_at, format_by, last_left}
-use Rattle.lsp_redact.specs.Redacting.{log_by, names_by, names_to, redact_run, shape_of, shape_to}
-use Rattle.lsp_redact.specs.Redacting.{whole_shape, with_events}
+use Rattle.lsp_redact.specs.Redacting.{left_to, log_by, names_by, names_to, redact_run, shape_of}
+use Rattle.lsp_redact.specs.Redacting.{shape_to, whole_shape, with_events}
 use Rattle.lsp_redact.specs.Shape as shape
 use Rattle.lsp_redact.specs.Shape.{Shape}
 use Rattle.lsp_redact.specs.View.{kept_view}
@@ -140,12 +140,12 @@ written_more most left more =
 -- a log up to it is put together
 pub log_to : (most : ℕ) (terms : Terms) (before : List Event) (raw : Raw) (event : Event)
     (rule : ℕ) (kept : List Kept) (format : Format) (start mid last : Redaction)
-    (old middle new : List ℕ) → kept ≡ kept_in before → format ≡ format_by terms.kept
+    (middle new : List ℕ) → kept ≡ kept_in before → format ≡ format_by terms.kept
     → Stands start.names no_names → start.apart ≡ apart_at terms before event rule
-    → Writes start mid (names_in kept) (λ n. old ++ log_by most format n start.apart kept) middle
+    → Writes start mid (names_in kept) (λ n. log_by most format n start.apart kept) middle
     → AddsLast most mid last raw rule (kept_of before event) middle new
-    → new ≡ old ++ written most (shape_to terms before raw event rule)
-log_to most terms before raw event rule kept format start mid last old middle new are format_is fresh
+    → new ≡ written most (shape_to terms before raw event rule)
+log_to most terms before raw event rule kept format start mid last middle new are format_is fresh
     apart said adds =
     let whole : Names = names_to before event in
     let own : Names = names_by (kept_of before event) in
@@ -162,30 +162,26 @@ log_to most terms before raw event rule kept format start mid last old middle ne
     (flat_map (records_of most) (last_left whole a raw rule (kept_of before event))) in
     adds.shows.value seen whole stands all
     ∙ ap (λ (t : List ℕ). t ++ end mid.apart) (said.shows.value no_names whole fresh first)
-    ∙ append_assoc old log (end mid.apart)
-    ∙ ap (λ (t : List ℕ). old ++ t)
-    (ap (λ (a : Option ℕ). log ++ end a) (said.same ∙ apart)
+    ∙ ap (λ (a : Option ℕ). log ++ end a) (said.same ∙ apart)
     ∙ ap (λ (f : Format). log_by most f whole start.apart kept ++ end due) format_is
     ∙ ap (λ (a : Option ℕ). log_by most (format_by terms.kept) whole a kept ++ end due) apart
     ∙ ap (λ (ks : List Kept). log_by most (format_by terms.kept) whole due ks ++ end due) are
     ∙ written_more most (shape_of terms whole due before)
-    (last_left whole due raw rule (kept_of before event)))
+    (last_left whole due raw rule (kept_of before event))
 
 -- what is checked is said of it, and the run stops
 pub says_last : (limits : Bounds) (terms : Terms) (before : List Heard) (h : Heard) (rule : ℕ)
     (Fits : Rests → Type 0) (Stands_on : Type 0) (outcome : Outcome) (boxed : Boxed)
     (log : List ℕ) (v : Verdict) (old new : List ℕ) → boxed.value ≡ outcome
     → rule_of terms before h ≡ Some rule
-    → log ≡ written (most_of limits)
-    (shape_to terms (heard_events before) h.raw h.note.event rule)
+    → log ≡ left_to limits terms before h rule
     → v ≡ no_by (heard_events before) h.note.event rule
     → (said : List ℕ) × (new ≡ old ++ said) × Checks limits log v said outcome
     → Says (redact_run limits) terms before h Fits old new Stands_on (Stop boxed)
 says_last limits terms before h rule Fits Stands_on outcome boxed log v old new in_box offends is given
     (said, added, checks) =
     let own : SaysOf limits terms before h (Some rule) said outcome =
-    subst (λ (x : Verdict). Checks limits (written (most_of limits)
-    (shape_to terms (heard_events before) h.raw h.note.event rule)) x said outcome) given
+    subst (λ (x : Verdict). Checks limits (left_to limits terms before h rule) x said outcome) given
     (subst (λ (w : List ℕ). Checks limits w v said outcome) is checks) in
     let due : SaysOf limits terms before h (rule_of terms before h) said outcome =
     subst (λ (o : Option ℕ). SaysOf limits terms before h o said outcome) (sym offends) own in
@@ -207,18 +203,17 @@ says_last limits terms before h rule Fits Stands_on outcome boxed log v old new 
 
 -- the whole log is put together
 pub whole_log : (most : ℕ) (terms : Terms) (events : List Event) (kept : List Kept)
-    (format : Format) (start last : Redaction) (old new : List ℕ) → kept ≡ kept_in events
+    (format : Format) (start last : Redaction) (new : List ℕ) → kept ≡ kept_in events
     → format ≡ format_by terms.kept → Stands start.names no_names → start.apart ≡ None
-    → Writes start last (names_in kept) (λ n. old ++ log_by most format n start.apart kept) new
-    → new ≡ old ++ written most (whole_shape terms events)
-whole_log most terms events kept format start last old new are format_is fresh apart said =
+    → Writes start last (names_in kept) (λ n. log_by most format n start.apart kept) new
+    → new ≡ written most (whole_shape terms events)
+whole_log most terms events kept format start last new are format_is fresh apart said =
     let seen : Names = names_in kept in
     let all : Begins (joined no_names seen) seen = (no_names, sym (joined-none seen)) in
     said.shows.value no_names seen fresh all
-    ∙ ap (λ (t : List ℕ). old ++ t)
-    (ap (λ (f : Format). log_by most f seen start.apart kept) format_is
+    ∙ ap (λ (f : Format). log_by most f seen start.apart kept) format_is
     ∙ ap (λ (a : Option ℕ). log_by most (format_by terms.kept) seen a kept) apart
-    ∙ ap (λ (ks : List Kept). log_by most (format_by terms.kept) (names_in ks) None ks) are)
+    ∙ ap (λ (ks : List Kept). log_by most (format_by terms.kept) (names_in ks) None ks) are
 
 -- what is checked is said of it
 pub says_whole : (limits : Bounds) (terms : Terms) (heard : List Heard) (e : LogEvents) (end : End)

@@ -97,16 +97,21 @@ bare_text (spoken.request id method params) = refl
 bare_text (spoken.notification method params) = refl
 bare_text (spoken.response id reply) = refl
 
+-- of a call whose params are bad
+pub call_left : (m : Message) (value : Data) (text : List ℕ) → value ≡ bare_data (bare_of m)
+    → (has_float value ≡ false → text ≡ compact_text value) → text ≡ refused_text (bare_of m)
+call_left m value text is made =
+    made (ap has_float is ∙ bare_plain m) ∙ ap compact_text is ∙ bare_text m
+
 -- of bad params
 pub params_left : (bytes : List ℕ) (rule : ℕ) (text : List ℕ) (m : Message)
     → rule ≡ rules.BAD_METHOD_PARAMS → Reads bytes m
-    → (has_float (bare_data (bare_of m)) ≡ false → text ≡ compact_text (bare_data (bare_of m)))
-    → text ≡ refused_text (left_of bytes rule)
+    → text ≡ refused_text (bare_of m) → text ≡ refused_text (left_of bytes rule)
 params_left bytes rule text m is (d, json, reads) made =
     let heard : spec.spoken bytes ≡ Some m =
     ap (λ (o : Option Data). option_and_then (λ x. message_in (parts_of x)) o) json.1
     ∙ reads.made in
-    rw (ap (λ (r : ℕ). r == rules.BAD_METHOD_PARAMS) is, heard) (made (bare_plain m) ∙ bare_text m)
+    rw (ap (λ (r : ℕ). r == rules.BAD_METHOD_PARAMS) is, heard) made
 
 -- a content that is no message does not have bad params
 pub never_both : (side : Side) (bytes : List ℕ) (rule : ℕ) (f : Fault) (r : ℕ) (text : List ℕ)

@@ -1,6 +1,6 @@
 -- What is written of what is kept, one event after another.
 use Rattle.std.proofs.Common.{◌≡◌, ℕ, ◌+◌, ◌<◌, List, [], ◌∷◌, ◌++◌, map, length, take, get_or, Option, Some}
-use Rattle.std.proofs.Common.{None, refl, sym, ap, subst, ◌∙◌, append_assoc, append-nil}
+use Rattle.std.proofs.Common.{None, sym, ap, subst, ◌∙◌, append_assoc, append-nil}
 use Rattle.std.specs.List.{flat_map}
 use Rattle.std.proofs.lemmas.Grind.{flat_map-append}
 use Rattle.std.proofs.lemmas.List.{map-append, take_more}
@@ -46,22 +46,20 @@ log_more most format names apart ks k =
     ∙ sym (append_assoc (first_line format) (text ks) (spelled most names apart k))
 
 -- nothing is written but the first line
-pub say_none : (r : Redaction) (most : ℕ) (format : Format) (old new : List ℕ)
-    → new ≡ old ++ first_line format
-    → Writes r r no_names (λ n. old ++ log_by most format n r.apart []) new
-say_none r most format old new is =
-    writes_same r (old ++ (first_line format ++ [])) new
-    (is ∙ ap (λ (t : List ℕ). old ++ t) (sym (append-nil (first_line format))))
+pub say_none : (r : Redaction) (most : ℕ) (format : Format) (new : List ℕ)
+    → new ≡ first_line format → Writes r r no_names (λ n. log_by most format n r.apart []) new
+say_none r most format new is =
+    writes_same r (first_line format ++ []) new (is ∙ sym (append-nil (first_line format)))
 
 -- one more is
 pub say_more : (start old new : Redaction) (most : ℕ) (format : Format) (ks : List code.Kept)
-    (i : ℕ) (k : code.Kept) (first before after : List ℕ) → i < length ks → k ≡ get_or ks i k
+    (i : ℕ) (k : code.Kept) (before after : List ℕ) → i < length ks → k ≡ get_or ks i k
     → Writes start old (names_in (map kept_view (take i ks)))
-    (λ n. first ++ log_by most format n start.apart (map kept_view (take i ks))) before
+    (λ n. log_by most format n start.apart (map kept_view (take i ks))) before
     → IsAdded old new most (kept_view k) before after
     → Writes start new (names_in (map kept_view (take (i + 1) ks)))
-    (λ n. first ++ log_by most format n start.apart (map kept_view (take (i + 1) ks))) after
-say_more start old new most format ks i k first before after lt is said own =
+    (λ n. log_by most format n start.apart (map kept_view (take (i + 1) ks))) after
+say_more start old new most format ks i k before after lt is said own =
     let xs : List Kept = map kept_view (take i ks) in
     let x : Kept = kept_view k in
     let taken : map kept_view (take (i + 1) ks) ≡ xs ++ x ∷ [] =
@@ -71,9 +69,9 @@ say_more start old new most format ks i k first before after lt is said own =
     names_in-append xs (x ∷ [])
     ∙ ap (joined (names_in xs)) (joined-none (names_of x)) in
     subst (λ (ys : List Kept). Writes start new (names_in ys)
-    (λ n. first ++ log_by most format n start.apart ys) after) (sym taken)
+    (λ n. log_by most format n start.apart ys) after) (sym taken)
     (subst (λ (ns : Names). Writes start new ns
-    (λ n. first ++ log_by most format n start.apart (xs ++ x ∷ [])) after) (sym names)
+    (λ n. log_by most format n start.apart (xs ++ x ∷ [])) after) (sym names)
     (record {
       same = own.same ∙ said.same;
       shows = record {
@@ -86,7 +84,7 @@ say_more start old new most format ks i k first before after lt is said own =
     added : (past whole : Names) → Stands start.names past
         → Begins (joined past (joined (names_in (map kept_view (take i ks))) (names_of (kept_view k))))
         whole
-        → after ≡ first ++ log_by most format whole start.apart
+        → after ≡ log_by most format whole start.apart
         (map kept_view (take i ks) ++ kept_view k ∷ [])
     added past whole stands begins =
         let xs : List Kept = map kept_view (take i ks) in
@@ -105,9 +103,7 @@ say_more start old new most format ks i k first before after lt is said own =
         ) in
         own.shows.value (joined past (names_in xs)) whole (said.shows.stands past stands) all
         ∙ (λ j. said.shows.value past whole stands front j ++ spelled most whole (said.same j) x)
-        ∙ append_assoc first (log_by most format whole start.apart xs)
-        (spelled most whole start.apart x)
-        ∙ ap (λ (t : List ℕ). first ++ t) (sym (log_more most format whole start.apart xs x))
+        ∙ sym (log_more most format whole start.apart xs x)
 
 -- the event that offends is
 pub last_kept : (most : ℕ) (old new : Redaction) (raw : Raw) (rule : ℕ) (o : Option Kept) (k : Kept)

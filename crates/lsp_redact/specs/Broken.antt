@@ -2,14 +2,14 @@
 -- method asks for.
 use Rattle.std.specs.Prelude.{◌==◌, ℕ, List, [], if◌then◌else◌, codes, Option, Some, None}
 use Rattle.std.specs.Prelude.{option_and_then}
-use Rattle.serde_json.specs.Data.{Data, null, string, object, no_members, member}
+use Rattle.serde_json.specs.Data.{Data, null, object}
 use Rattle.serde_json.specs.Read.{read}
 use Rattle.serde_json.specs.Written.{compact_text}
 use Rattle.lsp_rpc.specs.Act.{Text}
 use Rattle.lsp_rpc.specs.Message.{Message, request, notification, response}
 use Rattle.lsp_rpc.specs.Reading.{message_in, parts_of}
 use Rattle.lsp_types.specs.declared.rules.TheConstants as rules
-use Rattle.lsp_redact.specs.Messages.{natural, version_data}
+use Rattle.lsp_redact.specs.Messages.{call_members, natural}
 use Rattle.lsp_redact.specs.Names.{known_methods, place_in, written_method}
 use Rattle.lsp_redact.specs.Shape.{Name, Refused, bare_notification, bare_request, breaks, known}
 use Rattle.lsp_redact.specs.Shape.{no_call}
@@ -55,18 +55,11 @@ broken_content rule =
     then codes "{\"error\":null,\"id\":0,\"jsonrpc\":\"2.0\"}"
     else []))))))
 
--- a call of this method without params; a request has the id 0
-abbrev pub bare_request_data : Text → Data
-bare_request_data method = object (member (codes "id") (natural 0)
-    (member (codes "jsonrpc") version_data (member (codes "method") (string method) no_members)))
-
-abbrev pub bare_notification_data : Text → Data
-bare_notification_data method = object
-    (member (codes "jsonrpc") version_data (member (codes "method") (string method) no_members))
-
+-- a call of a method without params; a request has the id 0
 abbrev pub bare_data : Refused → Data
-bare_data (bare_request method) = bare_request_data (written_method method)
-bare_data (bare_notification method) = bare_notification_data (written_method method)
+bare_data (bare_request method) =
+    object (call_members (Some (natural 0)) (written_method method) None)
+bare_data (bare_notification method) = object (call_members None (written_method method) None)
 bare_data _ = null
 
 -- **what is written of a content that is refused**

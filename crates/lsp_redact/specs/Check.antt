@@ -97,6 +97,10 @@ is_yes (bad_log number code) = false
 abbrev pub shows : Verdict → Verdict → Bool
 shows v own = if is_fault v then is_yes own else same_but_names v own
 
+-- a log shows a verdict, or does not
+abbrev pub IsShown : Bounds → List ℕ → Verdict → Bool → Type 0
+IsShown limits log v shown = (own : Verdict) × IsVerdict limits log own × (shown ≡ shows v own)
+
 -- ---- the run
 
 -- how the run ends on a log with this verdict that it shows

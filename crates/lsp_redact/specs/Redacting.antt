@@ -81,6 +81,11 @@ abbrev pub shape_to : Terms → List Event → Raw → Event → ℕ → Shape
 shape_to terms before raw event rule = shape_by terms (names_to before event)
     (apart_at terms before event rule) before raw event rule
 
+-- what is written of it
+abbrev pub left_to : Bounds → Terms → List Heard → Heard → ℕ → List ℕ
+left_to limits terms before h rule =
+    written (most_of limits) (shape_to terms (heard_events before) h.raw h.note.event rule)
+
 -- ---- an event
 
 -- of an event that is kept nothing is said yet; of one that offends all that is left, if it shows
@@ -88,8 +93,7 @@ shape_to terms before raw event rule = shape_by terms (names_to before event)
 abbrev pub SaysOf : Bounds → Terms → List Heard → Heard → Option ℕ → List ℕ → Outcome → Type 0
 SaysOf limits terms before h None out outcome = (out ≡ []) × (outcome ≡ Done)
 SaysOf limits terms before h (Some rule) out outcome = Checks limits
-    (written (most_of limits) (shape_to terms (heard_events before) h.raw h.note.event rule))
-    (no_by (heard_events before) h.note.event rule) out outcome
+    (left_to limits terms before h rule) (no_by (heard_events before) h.note.event rule) out outcome
 
 -- ---- the end
 

@@ -8,10 +8,11 @@ ghost use Rattle.lsp_types.specs.declared.side.Side.{Side};
 ghost use Rattle.lsp_rpc.specs.Params.{IsRefused};
 ghost use Rattle.serde_json.specs.View.{view};
 
+use crate::messages::call_value;
 use crate::names::is_known;
 use lsp_rpc::{Message, Result, RpcFault, read};
 use lsp_types::rules;
-use serde_json::{Value, json};
+use serde_json::Value;
 use std::alloc::Global;
 
 /// A content that breaks a rule of 201 to 208 (JSON-RPC 2.0, sections 4 and 5).
@@ -43,15 +44,25 @@ fn bare_call(alloc: Global, message: &Message) -> Result<Value>
 {
     match message {
         Message::Request { method, .. } => {
-            let method = known_method(method.as_str());
-            Ok(json!(in alloc; {"id": 0u32, "jsonrpc": "2.0", "method": method})?)
+            let method = String::from_str(alloc, known_method(method.as_str()))?;
+            call_value(alloc, Some(Value::from(0u64)), method, None)
         }
         Message::Notification { method, .. } => {
-            let method = known_method(method.as_str());
-            Ok(json!(in alloc; {"jsonrpc": "2.0", "method": method})?)
+            let method = String::from_str(alloc, known_method(method.as_str()))?;
+            call_value(alloc, None, method, None)
         }
         Message::Response { .. } => Ok(Value::Null),
     }
+}
+
+/// A call of a method without its params, as JSON text.
+fn bare_text(alloc: Global, message: &Message) -> Result<String>
+    ensures { IfOk result (λ text. string_bytes text
+        ≡ refused_text (bare_of (message_view message.now))) }
+{
+    let bare = bare_call(alloc, message)?;
+    let text = bare.to_string(alloc)?;
+    Ok(text)
 }
 
 /// What stands for a content that breaks this rule of 201 to 209: of bad params only the method
@@ -65,11 +76,7 @@ pub(crate) fn broken_text(alloc: Global, content: &[u8], rule: u16) -> Result<St
         return Ok(text);
     }
     match read(alloc, content) {
-        Ok(message) => {
-            let bare = bare_call(alloc, &message)?;
-            let shown = bare.to_string(alloc)?;
-            Ok(shown)
-        }
+        Ok(message) => bare_text(alloc, &message),
         Err(RpcFault::Rule(_)) => Ok(String::new(alloc)),
         Err(RpcFault::Memory) => Err(lsp_rpc::Memory),
     }

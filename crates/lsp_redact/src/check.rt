@@ -2,7 +2,7 @@
 ghost use Rattle.std.specs.Prelude.{◌≡◌, ◌++◌, List, ℕ, IfOk, Some, None, map, string_bytes};
 ghost use Rattle.lsp_extract.specs.Normal.{is_frame_rule};
 ghost use Rattle.lsp_redact.specs.Check as spec;
-ghost use Rattle.lsp_redact.specs.Check.{Checks, EndsBy};
+ghost use Rattle.lsp_redact.specs.Check.{Checks, EndsBy, IsShown};
 ghost use Rattle.lsp_session.specs.Entry.{request_view};
 ghost use Rattle.lsp_session.specs.Sent.{same_side};
 ghost use Rattle.lsp_verdict.specs.Given.{document_view, requests_view, summary_view, verdict_view};
@@ -14,6 +14,7 @@ use lsp_rpc::{Encoding, Result, Side, SyncKind};
 use lsp_session::OpenRequest;
 use lsp_types::rules;
 use lsp_verdict::{OpenDocument, Outcome, Summary, Verdict, Who};
+use std::alloc::Global;
 
 fn same_who(who: Who, other: Who) -> bool
     ensures { result ≡ spec.same_who who other }
@@ -214,6 +215,14 @@ fn outcome_of(verdict: Verdict) -> Outcome
     }
 }
 
+/// Whether a log shows this verdict.
+fn is_shown(alloc: Global, log: &str, verdict: &Verdict, limits: Limits) -> Result<bool>
+    ensures { IfOk result (λ shown. IsShown limits log.now (verdict_view verdict.now) shown) }
+{
+    let own = verdict_of(alloc, log.as_bytes(), limits)?;
+    Ok(shows(verdict, &own))
+}
+
 /// Adds a log to a text where it shows this verdict, and else nothing.
 pub(crate) fn put_checked(
     text: &mut String,
@@ -225,8 +234,8 @@ pub(crate) fn put_checked(
         × (string_bytes text.new ≡ string_bytes text.old ++ said)
         × Checks limits log.now (verdict_view verdict) said outcome) }
 {
-    let own = verdict_of(*text.allocator(), log.as_bytes(), limits)?;
-    if !shows(&verdict, &own) {
+    let shown = is_shown(*text.allocator(), log, &verdict, limits)?;
+    if !shown {
         return Ok(Outcome::Unlike);
     }
     text.push_str(log)?;

@@ -39,7 +39,7 @@ fn version_value(alloc: Global) -> Result<Value>
 }
 
 /// A call of this method, a request if it has an id.
-fn call_value(
+pub(crate) fn call_value(
     alloc: Global,
     id: Option<Value>,
     method: String,

@@ -1,5 +1,5 @@
 //! What is kept of a log on the way, and what is written of it once its verdict is known.
-ghost use Rattle.std.specs.Prelude.{◌≡◌, ◌++◌, ◌∷◌, [], ℕ, List, None, OnOk, Some, false, map};
+ghost use Rattle.std.specs.Prelude.{◌≡◌, ◌++◌, ◌∷◌, [], IfOk, List, None, OnOk, Some, false, map};
 ghost use Rattle.std.specs.Prelude.{max, option_map, option_to_list, string_bytes};
 ghost use Rattle.std.specs.List.{flat_map};
 ghost use Rattle.lsp_docs.specs.Documents.{Terms};
@@ -8,18 +8,18 @@ ghost use Rattle.lsp_log.specs.Log.{spelling};
 ghost use Rattle.lsp_redact.specs.Keeping.{Keeps};
 ghost use Rattle.lsp_redact.specs.Kept.{awaits};
 ghost use Rattle.lsp_redact.specs.Kept as spec;
-ghost use Rattle.lsp_redact.specs.Names.{names_in, names_of};
-ghost use Rattle.lsp_redact.specs.Naming.{Writes};
+ghost use Rattle.lsp_redact.specs.Names.{names_in, names_of, no_names};
+ghost use Rattle.lsp_redact.specs.Naming.{Stands, Writes};
 ghost use Rattle.lsp_redact.specs.Records.{records_of};
 ghost use Rattle.lsp_redact.specs.Records as records;
-ghost use Rattle.lsp_redact.specs.Redacting.{AddsLast, IsBroken, IsFaultOf, format_by, log_by};
-ghost use Rattle.lsp_redact.specs.Redacting.{redact_run};
+ghost use Rattle.lsp_redact.specs.Redacting.{AddsLast, IsBroken, IsFaultOf, apart_at, format_by};
+ghost use Rattle.lsp_redact.specs.Redacting.{left_to, log_by, redact_run};
 ghost use Rattle.lsp_redact.specs.Shown.{shown_kept};
 ghost use Rattle.lsp_redact.specs.View.{kept_view};
 ghost use Rattle.lsp_replay.specs.Telling.{IsSeen, MaySpeak, rule_of};
 ghost use Rattle.lsp_verdict.specs.Event.{Event};
 ghost use Rattle.lsp_verdict.specs.Given.{raw_view};
-ghost use Rattle.lsp_verdict.specs.Heard.{Heard};
+ghost use Rattle.lsp_verdict.specs.Heard.{Heard, heard_events};
 ghost use Rattle.lsp_verdict.specs.Placed.{Reads};
 
 use crate::apart::apart_of;
@@ -85,24 +85,19 @@ impl Redacting {
         Ok(())
     }
 
-    /// Adds the log of what is kept, in records of so many characters.
-    fn say(
-        &self,
-        text: &mut String,
-        format: Format,
-        redaction: &mut Redaction,
-        most: usize,
-    ) -> Result<()>
-        ensures { OnOk result (Writes redaction.old redaction.new
+    /// The log of what is kept, in records of so many characters.
+    fn said(&self, redaction: &mut Redaction, format: Format, most: usize) -> Result<String>
+        ensures { IfOk result (λ text. Writes redaction.old redaction.new
             (names_in (map kept_view self.now.kept.items))
-            (λ n. string_bytes text.old ++ log_by (max most 1) format n redaction.old.apart
-            (map kept_view self.now.kept.items)) (string_bytes text.new)) }
+            (λ n. log_by (max most 1) format n redaction.old.apart
+            (map kept_view self.now.kept.items)) (string_bytes text)) }
     {
-        push_first_line(text, format)?;
+        let mut text = String::new(redaction.alloc);
+        push_first_line(&mut text, format)?;
         for kept in &self.kept {
-            push_kept(text, redaction, kept, most)?;
+            push_kept(&mut text, redaction, kept, most)?;
         }
-        Ok(())
+        Ok(text)
     }
 
     /// Adds the event that offends, in records of so many characters.
@@ -121,17 +116,31 @@ impl Redacting {
             → AddsLast (max most 1) redaction.old redaction.new (raw_view seen.now.raw) rule
             (spec.kept_of before event) (string_bytes text.old) (string_bytes text.new)) }
     {
-        let kept = kept_of(redaction.alloc, seen, self.awaits)?;
-        match kept {
-            Some(kept) => {
-                push_kept(text, redaction, &kept, most)?;
-                Ok(())
-            }
-            None => {
-                push_broken(text, redaction.alloc, seen.raw, rule, most)?;
-                Ok(())
-            }
+        match kept_of(redaction.alloc, seen, self.awaits)? {
+            Some(kept) => push_kept(text, redaction, &kept, most),
+            None => push_broken(text, redaction.alloc, seen.raw, rule, most),
         }
+    }
+
+    /// The log of what is kept and of the event that offends.
+    fn left_to(
+        &self,
+        redaction: &mut Redaction,
+        held: &Events<Lined>,
+        seen: &Seen<'_>,
+        rule: u16,
+    ) -> Result<String>
+        ensures { IfOk result (λ left. (terms : Terms) (before : List Heard) (h : Heard)
+            → Keeps self.now terms before
+            → IsSeen held.now.session held.now.docs held.now.counts seen.now terms before h
+            → rule_of terms before h ≡ Some rule → Stands redaction.old.names no_names
+            → redaction.old.apart ≡ apart_at terms (heard_events before) h.note.event rule
+            → string_bytes left ≡ left_to self.now.limits terms before h rule) }
+    {
+        let most = most_of(self.limits);
+        let mut left = self.said(redaction, format_of(&held.docs), most)?;
+        self.say_last(&mut left, redaction, seen, rule, most)?;
+        Ok(left)
     }
 }
 
@@ -213,12 +222,9 @@ impl Account for Redacting {
             self.keep(alloc, held, seen)?;
             return Ok(Flow::GoOn);
         };
-        let most = most_of(self.limits);
         let apart = apart_of(alloc, held, seen.call, rule, tried)?;
         let mut redaction = Redaction::new(alloc, apart);
-        let mut left = String::new(alloc);
-        self.say(&mut left, format_of(&held.docs), &mut redaction, most)?;
-        self.say_last(&mut left, &mut redaction, seen, rule, most)?;
+        let left = self.left_to(&mut redaction, held, seen, rule)?;
         let verdict = last_offence(&held.counts, seen.raw, rule, false).verdict();
         let outcome = put_checked(text, left.as_str(), verdict, self.limits)?;
         let boxed = Box::new(alloc, outcome)?;
@@ -234,9 +240,8 @@ impl Account for Redacting {
     ) -> Result<Outcome> {
         let alloc = *text.allocator();
         let mut redaction = Redaction::new(alloc, None);
-        let mut left = String::new(alloc);
         let most = most_of(self.limits);
-        self.say(&mut left, format_of(&held.docs), &mut redaction, most)?;
+        let left = self.said(&mut redaction, format_of(&held.docs), most)?;
         let verdict = verdict_at(held, log, end, Completeness::Ignored)?;
         let outcome = put_checked(text, left.as_str(), verdict, self.limits)?;
         Ok(outcome)

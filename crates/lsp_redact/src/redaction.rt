@@ -10,12 +10,21 @@ use lsp_rpc::Result;
 use std::alloc::Global;
 
 /// How the names and the characters of one log are shown.
-#[derive(Drop)]
 pub(crate) struct Redaction {
     pub(crate) alloc: Global,
     pub(crate) names: Names,
     /// The character that must stay apart from others of its kind.
     pub(crate) apart: Option<char>,
+}
+
+impl Drop for Redaction {
+    fn drop(self) {
+        let Redaction {
+            alloc: _,
+            names: _,
+            apart: _,
+        } = self;
+    }
 }
 
 impl Redaction {

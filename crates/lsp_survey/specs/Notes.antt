@@ -1,5 +1,5 @@
 -- What is noted of documents, of requests and of the bytes of both sides.
-use Rattle.std.specs.Prelude.{List, Option, ℕ, option_map, string_bytes, String, ◌≡◌, Bool, true}
+use Rattle.std.specs.Prelude.{List, Option, ℕ, option_map, string_bytes, ◌≡◌, Bool, true}
 use Rattle.std.specs.Prelude.{false, not, ◌||◌, ◌==◌, if◌then◌else◌, Some, None, is_some}
 use Rattle.std.specs.Prelude.{option_and_then, unwrap_or, Vec, ◌&&◌, nat_le}
 use Rattle.std.specs.Map.{lookup}
@@ -18,29 +18,14 @@ use Rattle.lsp_types.specs.declared.rules.TheConstants as rules
 use Rattle.lsp_types.specs.declared.side.Side.{Side}
 use Rattle.lsp_types.specs.declared.side.Side.TheVariants.{Editor, Server}
 use Rattle.lsp_session.specs.Sent.{answered_from, same_side}
+use Rattle.lsp_uris.specs.Held.{asked_in, has_uri}
 use Rattle.lsp_survey.specs.declared.notes.malformed.Malformed.{Malformed}
 use Rattle.lsp_survey.specs.declared.notes.note.Spelling.{Spelling}
 use Rattle.lsp_survey.specs.declared.notes.passed.Passed.{Passed}
 use Rattle.lsp_survey.specs.declared.notes.sides.SideNote.{SideNote}
 use Rattle.lsp_survey.specs.declared.notes.sides.Sides.{Sides}
 
--- ---- maps by the ids of requests
-
--- what is held of an id
-abbrev pub asked_in : {X : Type 0} → List (Id × X) → Ident → Option X
-asked_in es id = lookup (λ key. same_id id (id_view key)) es
-
--- ---- what a map holds under a URI
-
--- what the value under the URI is seen as
-abbrev pub held_by : {D R : Type 0} → (D → R) → List (String Global × D) → List ℕ → Option R
-held_by view es uri = option_map view (lookup (λ key. bytes_eq uri (string_bytes key)) es)
-
 -- ---- documents that are lost
-
--- the map has this URI
-abbrev pub has_uri : {X : Type 0} → List (String Global × X) → List ℕ → Bool
-has_uri es uri = is_some (held_by (λ x. x) es uri)
 
 -- whether the document of this URI is lost, of those of one spelling
 abbrev pub is_lost_in : Spelling → List ℕ → Bool

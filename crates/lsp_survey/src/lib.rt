@@ -25,7 +25,6 @@ pub use laws::{
 };
 pub use losses::Losses;
 pub use lsp_verdict::Listing;
-pub use notes::{Uris, add_uri, folded, forget, forget_uri, renews, reopens, sets_text};
 pub use offence_count::OffenceCount;
 pub use run::{run_show_all, run_survey};
 pub use text::run_text_all;

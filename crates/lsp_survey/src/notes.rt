@@ -6,24 +6,16 @@
 //! [`wants_handshake`] and [`wants_text`] say whether it may follow from an earlier one, and
 //! [`breaks_handshake`] whether it leaves the handshake lost.
 
-mod by_id;
 mod documents;
 mod malformed;
 mod note;
 mod passed;
 mod rules;
 mod sides;
-mod spelling;
-mod uris;
 
-pub use by_id::forget;
 pub(crate) use documents::{note_kept, note_malformed, note_refused};
-pub use documents::{renews, reopens};
 pub(crate) use malformed::{Malformed, meant_again};
 pub(crate) use note::Notes;
 pub(crate) use passed::Passed;
-pub use rules::sets_text;
 pub(crate) use rules::{breaks_handshake, wants_handshake, wants_text};
 pub(crate) use sides::Sides;
-pub use spelling::folded;
-pub use uris::{Uris, add_uri, forget_uri};

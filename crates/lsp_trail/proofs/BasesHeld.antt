@@ -16,7 +16,7 @@ use Rattle.lsp_docs.specs.Taken.{call_view}
 use Rattle.lsp_docs.specs.declared.call.Call as code
 use Rattle.lsp_docs.specs.declared.call.Call.TheVariants.{Opens, Changes, Closes, Saves, Shows}
 use Rattle.lsp_docs.proofs.Words.{uri_same}
-use Rattle.lsp_survey.proofs.Noting.{PutsUnder}
+use Rattle.lsp_uris.proofs.Putting.{PutsUnder}
 use Rattle.lsp_trail.specs.Bases.{AddedAt, AddedBy, Begun, ChangesOne, ClosedBy, KeepsBy, held_of}
 use Rattle.lsp_trail.specs.Bases.{sent_by}
 use Rattle.lsp_trail.specs.SentEdits.{SentEdits, sent_edits}

@@ -18,8 +18,8 @@ use Rattle.lsp_docs.proofs.Words.{capped-add, uri_is}
 use Rattle.lsp_verdict.specs.LookBack.{each_of}
 use Rattle.lsp_verdict.proofs.LookBackLemmas.{each_of-snoc}
 use Rattle.lsp_replay.specs.declared.heard.EventPlace.{EventPlace}
-use Rattle.lsp_survey.specs.Notes.{held_by}
-use Rattle.lsp_survey.proofs.Noting.{PutsUnder}
+use Rattle.lsp_uris.specs.Held.{held_by}
+use Rattle.lsp_uris.proofs.Putting.{PutsUnder}
 use Rattle.lsp_trail.specs.History.{KeptCall, is_closing, kept_call, last_ones, since_last}
 use Rattle.lsp_trail.specs.History.{with_room}
 use Rattle.lsp_trail.specs.Marking.{agreed, at_version, ends_waiting, found_at, last_shown}

@@ -14,7 +14,7 @@ use Rattle.lsp_docs.specs.Rules.{text_at}
 use Rattle.lsp_docs.specs.Snapshots.{has_number, kept, past}
 use Rattle.lsp_docs.specs.declared.snapshot.Match.{Match}
 use Rattle.lsp_docs.specs.declared.snapshot.Match.TheVariants.{Equal}
-use Rattle.lsp_survey.specs.Notes.{held_by}
+use Rattle.lsp_uris.specs.Held.{held_by}
 use Rattle.lsp_verdict.specs.Event.{calls, Event}
 use Rattle.lsp_verdict.specs.Offences.{kept_of}
 use Rattle.lsp_trail.specs.History.{since_last}

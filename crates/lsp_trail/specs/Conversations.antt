@@ -12,7 +12,7 @@ use Rattle.lsp_session.specs.declared.phase.Phase.{Phase}
 use Rattle.lsp_types.specs.declared.side.Side.{Side}
 use Rattle.lsp_types.specs.declared.side.Side.TheVariants.{Editor, Server}
 use Rattle.lsp_verdict.specs.Event.{Event}
-use Rattle.lsp_survey.specs.Notes.{asked_in}
+use Rattle.lsp_uris.specs.Held.{asked_in}
 use Rattle.lsp_trail.specs.Asking.{Numbered, Reply, asks, asked, replies, reply_of}
 use Rattle.lsp_trail.specs.Asking.{most_replies, leads, numbered, sents, since}
 use Rattle.lsp_trail.specs.History.{last_ones}

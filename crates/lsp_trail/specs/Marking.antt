@@ -16,7 +16,7 @@ use Rattle.lsp_docs.specs.declared.snapshot.Match.TheVariants.{Equal, Waits, Mis
 use Rattle.lsp_verdict.specs.Event.{Event}
 use Rattle.lsp_verdict.specs.LookBack.{each_of}
 use Rattle.lsp_replay.specs.declared.heard.EventPlace.{EventPlace}
-use Rattle.lsp_survey.specs.Notes.{held_by}
+use Rattle.lsp_uris.specs.Held.{held_by}
 use Rattle.lsp_trail.specs.History.{KeptCall, is_closing, kept_calls, last_ones, since_last}
 use Rattle.lsp_trail.specs.History.{with_room}
 use Rattle.lsp_trail.specs.declared.mark.VersionEvent.{VersionEvent}

@@ -11,7 +11,7 @@ use Rattle.lsp_docs.specs.declared.call.Took.TheVariants as took
 use Rattle.lsp_docs.specs.declared.snapshot.Match.{Match}
 use Rattle.lsp_docs.specs.declared.snapshot.Match.TheVariants.{Equal}
 use Rattle.lsp_replay.specs.declared.heard.EventPlace.{EventPlace}
-use Rattle.lsp_survey.specs.Notes.{held_by}
+use Rattle.lsp_uris.specs.Held.{held_by}
 use Rattle.lsp_verdict.specs.Event.{call_at, calls, Event}
 use Rattle.lsp_trail.specs.History.{each_kept, last_that}
 use Rattle.lsp_trail.specs.declared.uncompared.ShownText as code

@@ -4,12 +4,12 @@ ghost use Rattle.std.specs.Option.{option_or};
 ghost use Rattle.lsp_rpc.specs.Ident.{id_view, same_id};
 ghost use Rattle.lsp_rpc.specs.declared.message.Id.{Id as AnId};
 ghost use Rattle.lsp_trail.specs.Conversations.{last_at, place_in};
-ghost use Rattle.lsp_survey.specs.Notes.{asked_in};
+ghost use Rattle.lsp_uris.specs.Held.{asked_in};
 
 use indexmap::IndexMap;
 use lsp_replay::EventPlace;
 use lsp_rpc::{Id, Result, copy_id, same_id};
-use lsp_survey::forget;
+use lsp_uris::forget;
 use std::alloc::Global;
 use std::mem;
 

@@ -12,7 +12,7 @@ use lsp_docs::Docs;
 use lsp_lined::Lined;
 use lsp_replay::EventPlace;
 use lsp_rpc::Result;
-use lsp_survey::folded;
+use lsp_uris::folded;
 use std::alloc::Global;
 
 /// Whether another URI differs in its spelling alone from one of this size, in bytes, with this

@@ -7,7 +7,7 @@ use crate::{
     show_report,
 };
 use lsp_command::{
-    Request, Slip, file_of, lacks_comparison, status_of_request, uri_alone, worse_of,
+    Request, Slip, TaskOutcome, file_of, lacks_comparison, status_of_request, uri_alone, worse_of,
 };
 use lsp_json::push_file_json;
 use lsp_judge::RunFault;
@@ -119,6 +119,72 @@ fn run_one<R: Clock + Files + io::Input + Print + Eprint + AllocGlobal>(
     }
 }
 
+/// How the run on an input ended, as far as the end of the command depends on it.
+#[derive(Clone, Copy)]
+struct Told {
+    status: u8,
+    /// Whether the verdict is a No.
+    is_no: bool,
+    /// Whether a Yes has the status of a No.
+    has_lack: bool,
+    /// Whether standard output failed, so that nothing more can be written.
+    is_last: bool,
+}
+
+impl Told {
+    fn of(request: &Request<'_>, answer: &Result<TaskOutcome, RunFault>, is_no: bool) -> Told {
+        Told {
+            status: status_of_request(request, answer),
+            is_no,
+            has_lack: lacks_comparison(request, answer),
+            is_last: matches!(answer, Err(RunFault::Write)),
+        }
+    }
+
+    /// The worse status, and what holds of one of them.
+    fn and(self, other: Told) -> Told {
+        Told {
+            status: worse_of(self.status, other.status),
+            is_no: self.is_no || other.is_no,
+            has_lack: self.has_lack || other.has_lack,
+            is_last: self.is_last || other.is_last,
+        }
+    }
+}
+
+/// Says on standard error what there is to report of the run on an input. Where the words left
+/// something out, and that was said, there is no hint.
+fn tell<R: Eprint + AllocGlobal>(
+    rt: &R,
+    request: &Request<'_>,
+    shown: Option<&ShownName<'_>>,
+    ended: Ended,
+    has_slip: bool,
+) -> Told {
+    let is_no = ended.is_no();
+    let advice = match ended.advice {
+        Some(Advice::Hint(_)) if has_slip => None,
+        advice => advice,
+    };
+    let answer = show_report(rt, request, ended.answer);
+    show_remark(rt, &answer);
+    show_advice(rt, request, shown, advice);
+    Told::of(request, &answer, is_no)
+}
+
+/// Does what is asked on one input, and says on standard error what there is to report.
+fn tell_of_input<R: Clock + Files + io::Input + Print + Eprint + AllocGlobal>(
+    rt: &R,
+    request: &Request<'_>,
+    input: &str,
+    terminals: Terminals,
+    has_slip: bool,
+) -> Told {
+    let shown = shown_input(rt.alloc(), request, input);
+    let ended = run_one(rt, request, input, shown.as_ref(), terminals);
+    tell(rt, request, shown.as_ref(), ended, has_slip)
+}
+
 /// Does what is asked on each input in turn, and says on standard error what there is to report,
 /// before the next is opened. Only one is open at a time. It stops where standard output fails,
 /// since nothing more could be written either.
@@ -128,32 +194,23 @@ pub(crate) fn status_of_inputs<R: Clock + Files + io::Input + Print + Eprint + A
     terminals: Terminals,
 ) -> u8 {
     let has_slip = show_slip(rt, Slip::Uri, uri_alone(request));
-    let mut worst = 0;
-    let mut has_no = false;
-    let mut has_lack = false;
+    let mut all = Told {
+        status: 0,
+        is_no: false,
+        has_lack: false,
+        is_last: false,
+    };
     for input in request.inputs.as_slice() {
-        let shown = shown_input(rt.alloc(), request, input);
-        let ended = run_one(rt, request, input, shown.as_ref(), terminals);
-        has_no = has_no || ended.is_no();
-        // Where the words left something out, and that was said, there is no hint on the input.
-        let advice = match ended.advice {
-            Some(Advice::Hint(_)) if has_slip => None,
-            advice => advice,
-        };
-        let answer = show_report(rt, request, ended.answer);
-        has_lack = has_lack || lacks_comparison(request, &answer);
-        worst = worse_of(worst, status_of_request(request, &answer));
-        show_remark(rt, &answer);
-        show_advice(rt, request, shown.as_ref(), advice);
-        if let Err(RunFault::Write) = answer {
-            return worst;
+        all = all.and(tell_of_input(rt, request, input, terminals, has_slip));
+        if all.is_last {
+            return all.status;
         }
     }
-    if has_lack {
+    if all.has_lack {
         show_lack(rt);
     }
-    if has_no && terminals.error {
+    if all.is_no && terminals.error {
         show_explaining(rt, request, shown_inputs(rt.alloc(), request).as_ref());
     }
-    worst
+    all.status
 }

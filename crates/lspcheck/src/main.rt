@@ -22,16 +22,16 @@ use explaining::show_explaining;
 use inputs::status_of_inputs;
 pub use lsp_command::status_of;
 use lsp_command::{
-    BufferedInput, BufferedOutput, Hint, Pace, Request, Supply, Task, TaskOutcome, conflict_of,
-    file_of, hint_of, remark_of, report_apart, request_of, run_through, status_of_task,
-    status_of_words,
+    BufferedInput, BufferedOutput, Hint, Pace, Request, Supply, Task, TaskOutcome, Watch,
+    conflict_of, file_of, hint_of, remark_of, report_apart, request_of, run_through,
+    status_of_task, status_of_words,
 };
 use lsp_judge::RunFault;
 use progress::Progress;
 use shown_name::ShownName;
 use std::alloc::Global;
 use std::fs::OpenFile;
-use std::io::{IsTerminal, Read};
+use std::io::{IsTerminal, Read, Write};
 use std::process::ExitCode;
 use std::rt::{Clock, Env, Files};
 use std::{env, fs, io};
@@ -79,6 +79,47 @@ impl Ended {
     }
 }
 
+/// What may help beyond the fixed words for how a run ended.
+fn advice_on<I: Read + Drop, W: Write + Drop, V: Watch>(
+    answer: &Result<TaskOutcome, RunFault>,
+    input: &BufferedInput<'_, I, V>,
+    output: &BufferedOutput<'_, W, V>,
+) -> Option<Advice> {
+    match answer {
+        Err(RunFault::Read) => input.cause().map(Advice::Input),
+        Err(RunFault::Write) => output.cause().map(Advice::Output),
+        _ => hint_of(answer, input.beginning().as_slice()).map(Advice::Hint),
+    }
+}
+
+/// Runs from an input to an output.
+fn run_between<'a, I: Read + Drop, W: Write + Drop, V: Watch>(
+    alloc: Global,
+    request: &Request<'_>,
+    task: Task<'_>,
+    input: &mut BufferedInput<'a, I, V>,
+    output: &mut BufferedOutput<'a, W, V>,
+) -> Ended {
+    let answer = run_through(alloc, task, input, output, request.limits());
+    let advice = advice_on(&answer, input, output);
+    Ended { answer, advice }
+}
+
+/// Runs from an input to standard output.
+fn run_from<'a, R: Print + AllocGlobal, I: Read + Drop, V: Watch>(
+    rt: &R,
+    request: &Request<'_>,
+    task: Task<'_>,
+    input: &mut BufferedInput<'a, I, V>,
+    supply: &'a Supply<V>,
+) -> Ended {
+    let pace = Pace::of(&task, supply);
+    match BufferedOutput::new(rt.alloc(), io::writer(rt), pace) {
+        Ok(mut output) => run_between(rt.alloc(), request, task, input, &mut output),
+        Err(_) => Ended::by(RunFault::Memory),
+    }
+}
+
 /// Runs over one open input, and tells meanwhile how far it was read.
 fn run_on<R: Clock + Print + Eprint + AllocGlobal, I: Read + Drop>(
     rt: &R,
@@ -87,23 +128,11 @@ fn run_on<R: Clock + Print + Eprint + AllocGlobal, I: Read + Drop>(
     task: Task<'_>,
     progress: &Progress<'_, R>,
 ) -> Ended {
-    let alloc = rt.alloc();
     let supply = Supply::watched_by(progress);
-    let Ok(mut input) = BufferedInput::new(alloc, input, &task, &supply) else {
-        return Ended::by(RunFault::Memory);
-    };
-    let pace = Pace::of(&task, &supply);
-    let Ok(mut output) = BufferedOutput::new(alloc, io::writer(rt), pace) else {
-        return Ended::by(RunFault::Memory);
-    };
-    let limits = request.limits();
-    let answer = run_through(alloc, task, &mut input, &mut output, limits);
-    let advice = match answer {
-        Err(RunFault::Read) => input.cause().map(Advice::Input),
-        Err(RunFault::Write) => output.cause().map(Advice::Output),
-        _ => hint_of(&answer, input.beginning().as_slice()).map(Advice::Hint),
-    };
-    Ended { answer, advice }
+    match BufferedInput::new(rt.alloc(), input, &task, &supply) {
+        Ok(mut input) => run_from(rt, request, task, &mut input, &supply),
+        Err(_) => Ended::by(RunFault::Memory),
+    }
 }
 
 /// Runs over an input of this many bytes, where they are known.

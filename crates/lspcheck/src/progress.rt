@@ -66,6 +66,17 @@ impl<'a, R: Clock + Eprint> Progress<'a, R> {
         };
     }
 
+    /// Counts bytes that were read.
+    fn count(&self, count: usize) {
+        self.read.set(self.read.get().saturating_add(count as u64));
+    }
+
+    /// Writes the line, and begins another second.
+    fn renew(&self) {
+        self.since.set(Instant::now(self.rt).ok());
+        self.show(self.read.get() / MEGABYTE);
+    }
+
     /// Takes the line back.
     pub(crate) fn clear(&self) {
         if self.is_shown.replace(false) {
@@ -76,10 +87,9 @@ impl<'a, R: Clock + Eprint> Progress<'a, R> {
 
 impl<R: Clock + Eprint> Watch for &Progress<'_, R> {
     fn advance(&self, count: usize) {
-        self.read.set(self.read.get().saturating_add(count as u64));
+        self.count(count);
         if self.is_due() {
-            self.since.set(Instant::now(self.rt).ok());
-            self.show(self.read.get() / MEGABYTE);
+            self.renew();
         }
     }
 

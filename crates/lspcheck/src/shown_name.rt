@@ -5,11 +5,16 @@ use std::fmt;
 
 /// The name of a file as messages show it, so that no terminal takes a part of it for a command,
 /// and nobody misses it: as JSON text where it has a control character, and where it is empty.
-#[derive(Drop)]
 pub(crate) struct ShownName<'a> {
     name: &'a str,
     /// The JSON text, or `None` where memory for it was refused.
     quoted: Option<Option<String>>,
+}
+
+impl Drop for ShownName<'_> {
+    fn drop(self) {
+        let ShownName { name: _, quoted: _ } = self;
+    }
 }
 
 impl<'a> ShownName<'a> {

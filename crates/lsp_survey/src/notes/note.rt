@@ -6,11 +6,10 @@ ghost use Rattle.lsp_docs.specs.Taken.{call_view};
 ghost use Rattle.lsp_survey.specs.Notes.{PutsSpelling, Sets, SetsAlike, is_lost_in};
 ghost use Rattle.lsp_survey.specs.Notes.{is_noted, is_noted_lost, lost_among, spelling_in};
 
-use crate::notes::spelling::folded;
-use crate::notes::uris::{Uris, add_uri, forget_uri};
 use indexmap::IndexMap;
 use lsp_docs::Call;
 use lsp_rpc::Result;
+use lsp_uris::{Uris, add_uri, folded, forget_uri};
 use std::alloc::Global;
 
 /// The documents whose URIs differ in their spelling alone: all of them are lost or none, but for

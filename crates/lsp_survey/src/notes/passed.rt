@@ -8,10 +8,10 @@ ghost use Rattle.lsp_session.specs.Sent.{other_side, response_id};
 ghost use Rattle.lsp_survey.specs.Notes.{Passes, SetsRequest, SetsAny, has_any, has_passed};
 ghost use Rattle.lsp_types.specs.declared.side.Side.{Side as ASide};
 
-use crate::notes::by_id::{forget, put};
 use indexmap::IndexMap;
 use lsp_rpc::{Id, Message, Result, Side};
 use lsp_types::rules;
+use lsp_uris::{forget, put};
 use std::alloc::Global;
 
 type Ids = IndexMap<Id, ()>;

@@ -2,11 +2,12 @@
 //! leaves the handshake or a document lost.
 ghost use Rattle.std.specs.Prelude.{◌≡◌};
 ghost use Rattle.lsp_docs.specs.Taken.{call_view};
-ghost use Rattle.lsp_verdict.specs.Offences.{breaks_handshake, loses, sets_text};
-ghost use Rattle.lsp_verdict.specs.Offences.{wants_handshake, wants_other, wants_text};
+ghost use Rattle.lsp_verdict.specs.Offences.{breaks_handshake, loses, wants_handshake};
+ghost use Rattle.lsp_verdict.specs.Offences.{wants_other, wants_text};
 
 use lsp_docs::Call;
 use lsp_types::rules;
+use lsp_uris::sets_text;
 
 /// Whether the rule is broken where there was no handshake.
 pub(crate) fn wants_handshake(rule: u16) -> bool
@@ -51,19 +52,6 @@ pub(crate) fn breaks_handshake(asks: bool, rule: u16) -> bool
         rules::BAD_METHOD_PARAMS => asks,
         rules::BAD_INITIALIZE_RESULT..=rules::ENCODING_OUTSIDE_PROFILE => true,
         _ => false,
-    }
-}
-
-/// Whether a call opens its document or changes it, so that its sender has another text.
-pub fn sets_text(call: Call<'_>) -> bool
-    ensures { result ≡ sets_text (call_view call.entry) }
-{
-    match call {
-        Call::Opens { .. } => true,
-        Call::Changes { changes, .. } => !changes.is_empty(),
-        Call::Closes { .. } => false,
-        Call::Saves { .. } => false,
-        Call::Shows { .. } => false,
     }
 }
 

@@ -1,6 +1,6 @@
 use Rattle.std.proofs.Common.{◌≡◌, get_or, arith}
 use Rattle.std.proofs.lemmas.Option.{IfSome_then}
-use Rattle.lsp_outline.proofs.Walking.{array_value}
+use Rattle.lsp_walk.proofs.Walking.{array_value}
 use Rattle.lsp_outline.proofs.edits.changes_at.Goals as goal
 
 pub returns : goal.returns

@@ -3,7 +3,7 @@ use Rattle.std.proofs.lemmas.Int.{to_z_pos}
 use Rattle.serde_json.specs.Data.{null, number, unsigned}
 use Rattle.lsp_outline.proofs.Editing.{small_natural}
 use Rattle.lsp_outline.proofs.Negatives.{integer_passed}
-use Rattle.lsp_outline.proofs.Walking.{null_value, numeral_value}
+use Rattle.lsp_walk.proofs.Walking.{null_value, numeral_value}
 use Rattle.lsp_outline.proofs.edits.integer_unless_null_at.Goals as goal
 
 pub returns-in-Some : goal.returns-in-Some

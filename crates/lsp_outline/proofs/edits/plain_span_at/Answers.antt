@@ -1,4 +1,4 @@
-use Rattle.lsp_outline.proofs.Pairs.{span_read}
+use Rattle.lsp_outline.proofs.Spans.{span_read}
 use Rattle.lsp_outline.proofs.edits.plain_span_at.Goals as goal
 
 pub returns : goal.returns

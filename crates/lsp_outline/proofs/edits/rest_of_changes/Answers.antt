@@ -4,7 +4,7 @@ use Rattle.serde_json.specs.Data.{object, no_items}
 use Rattle.lsp_rpc.specs.Params.{all_of, change_at}
 use Rattle.lsp_rpc.specs.View.{change_view, changes_view}
 use Rattle.lsp_outline.proofs.Editing.{none_done, one_more}
-use Rattle.lsp_outline.proofs.Walking.{no_items_yet, item_turn, last_item, without_items}
+use Rattle.lsp_walk.proofs.Walking.{no_items_yet, item_turn, last_item, without_items}
 use Rattle.lsp_outline.proofs.edits.rest_of_changes.Goals as goal
 
 pub returns-then-byte_at-eq93 : goal.returns-then-byte_at-eq93

@@ -1,6 +1,6 @@
 use Rattle.std.proofs.Common.{◌≡◌, ◌++◌, ◌-◌, length, option_map}
 use Rattle.serde_json.specs.Data.{Items}
-use Rattle.lsp_outline.specs.Walk.{SomeItems}
+use Rattle.lsp_walk.specs.Walk.{SomeItems}
 use Rattle.lsp_rpc.specs.Params.{all_of, change_at}
 use Rattle.lsp_rpc.specs.View.{changes_view}
 use Rattle.lsp_outline.proofs.edits.rest_of_changes.Given as goal

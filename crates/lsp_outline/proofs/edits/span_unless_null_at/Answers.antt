@@ -1,7 +1,7 @@
 use Rattle.std.proofs.Common.{◌≡◌, get_or, refl, arith}
 use Rattle.serde_json.specs.Data.{null}
-use Rattle.lsp_outline.proofs.Pairs.{given_span}
-use Rattle.lsp_outline.proofs.Walking.{null_value}
+use Rattle.lsp_outline.proofs.Spans.{given_span}
+use Rattle.lsp_walk.proofs.Walking.{null_value}
 use Rattle.lsp_outline.proofs.edits.span_unless_null_at.Goals as goal
 
 pub returns-then-byte_at-eq110 : goal.returns-then-byte_at-eq110

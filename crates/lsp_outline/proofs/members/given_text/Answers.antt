@@ -1,7 +1,7 @@
 use Rattle.std.proofs.Common.{◌≡◌, subst, sym}
 use Rattle.std.proofs.lemmas.Slice.Eq.{bytes_eq-Decides}
 use Rattle.serde_json.specs.Data.{string}
-use Rattle.lsp_outline.specs.Walk.{IsValue}
+use Rattle.lsp_walk.specs.Walk.{IsValue}
 use Rattle.lsp_outline.proofs.members.given_text.Goals as goal
 
 pub returns-then-eq : goal.returns-then-eq

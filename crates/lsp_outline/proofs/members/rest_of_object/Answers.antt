@@ -1,6 +1,6 @@
 use Rattle.std.proofs.Common.{arith}
 use Rattle.serde_json.specs.Data.{no_members, put}
-use Rattle.lsp_outline.proofs.Walking.{no_members_yet, member_turn, last_member, without_members}
+use Rattle.lsp_walk.proofs.Walking.{no_members_yet, member_turn, last_member, without_members}
 use Rattle.lsp_outline.proofs.members.rest_of_object.Goals as goal
 
 pub returns-then-byte_at-eq125 : goal.returns-then-byte_at-eq125

@@ -1,6 +1,6 @@
 use Rattle.std.proofs.Common.{◌-◌, length}
 use Rattle.serde_json.specs.Data.{Members}
-use Rattle.lsp_outline.proofs.Walking.{SomeMembers}
+use Rattle.lsp_walk.proofs.Walking.{SomeMembers}
 use Rattle.lsp_outline.proofs.members.rest_of_object.Given as goal
 
 abbrev pub invariant-members : goal.invariant-members

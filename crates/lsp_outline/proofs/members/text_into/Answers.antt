@@ -1,6 +1,6 @@
 use Rattle.std.proofs.Common.{arith}
 use Rattle.serde_json.specs.Data.{object}
-use Rattle.lsp_outline.proofs.Walking.{whole_value}
+use Rattle.lsp_walk.proofs.Walking.{whole_value}
 use Rattle.lsp_outline.proofs.members.text_into.Goals as goal
 
 pub returns : goal.returns

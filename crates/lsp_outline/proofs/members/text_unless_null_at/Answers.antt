@@ -1,6 +1,6 @@
 use Rattle.std.proofs.Common.{◌≡◌, get_or, refl, string_bytes, arith}
 use Rattle.serde_json.specs.Data.{null, string}
-use Rattle.lsp_outline.proofs.Walking.{null_value}
+use Rattle.lsp_walk.proofs.Walking.{null_value}
 use Rattle.lsp_outline.proofs.members.text_unless_null_at.Goals as goal
 
 pub returns-then-byte_at-eq110 : goal.returns-then-byte_at-eq110

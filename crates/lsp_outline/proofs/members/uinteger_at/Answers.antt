@@ -1,7 +1,7 @@
 use Rattle.std.proofs.Common.{arith}
 use Rattle.serde_json.specs.Data.{number, unsigned}
 use Rattle.lsp_outline.proofs.Editing.{small_natural}
-use Rattle.lsp_outline.proofs.Walking.{numeral_value}
+use Rattle.lsp_walk.proofs.Walking.{numeral_value}
 use Rattle.lsp_outline.proofs.members.uinteger_at.Goals as goal
 
 pub returns-then-n-clause-read : goal.returns-then-n-clause-read

@@ -2,7 +2,7 @@ use Rattle.std.proofs.Common.{inl}
 use Rattle.std.proofs.lemmas.Result.{IfOk-weaker, IfErr-weaker}
 use Rattle.lsp_rpc.specs.View.{message_view}
 use Rattle.lsp_outline.proofs.Speaking.{bad_params}
-use Rattle.lsp_outline.proofs.Walking.{some_content}
+use Rattle.lsp_walk.proofs.Walking.{some_content}
 use Rattle.lsp_outline.proofs.outline.spoken_whole.Goals as goal
 
 pub returns-in-Ok-clause-ok : goal.returns-in-Ok-clause-ok

@@ -2,9 +2,9 @@ use Rattle.std.proofs.Common.{Some, ◌∙◌}
 use Rattle.lsp_rpc.specs.Ident.{id_view, same_id}
 use Rattle.lsp_rpc.specs.contracts.message.IdPartialEq.TheImpl.{eq-value}
 use Rattle.lsp_session.proofs.Ids.{eq_is_same_id}
-use Rattle.lsp_survey.specs.Notes.{asked_in}
+use Rattle.lsp_uris.specs.Held.{asked_in}
 use Rattle.lsp_trail.proofs.SessionSteps.{or_if}
-use Rattle.lsp_survey.proofs.PassedSteps.{updates_in}
+use Rattle.lsp_uris.proofs.Putting.{updates_in}
 use Rattle.lsp_trail.proofs.asked.add_other.Goals as goal
 
 pub returns : goal.returns

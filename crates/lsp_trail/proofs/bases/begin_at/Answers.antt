@@ -5,7 +5,7 @@ use Rattle.std.proofs.lemmas.Int.{to_z-of_z}
 use Rattle.std.proofs.lemmas.Option.{same_Some, slice_get-map}
 use Rattle.indexmap.proofs.CallerLemmas.{updates-with_value_at}
 use mir.Val.{SFits}
-use Rattle.lsp_survey.proofs.Noting.{puts-key}
+use Rattle.lsp_uris.proofs.Putting.{puts-key}
 use Rattle.lsp_trail.specs.Bases.{BegunBy, BeginsAt}
 use Rattle.lsp_trail.proofs.BasesHeld.{put_one}
 use Rattle.lsp_trail.proofs.bases.begin_at.Goals as goal

@@ -1,7 +1,7 @@
 use Rattle.std.proofs.Common.{Some, refl, subst, sym, w32}
 use Rattle.std.proofs.lemmas.Int.{to_z-of_z}
 use mir.Val.{SFits}
-use Rattle.lsp_survey.proofs.Noting.{puts-key}
+use Rattle.lsp_uris.proofs.Putting.{puts-key}
 use Rattle.lsp_trail.specs.Bases.{BegunBy}
 use Rattle.lsp_trail.proofs.BasesHeld.{put_one}
 use Rattle.lsp_trail.proofs.bases.begin_first.Goals as goal

@@ -1,5 +1,5 @@
 use Rattle.std.proofs.Common.{◌≡◌, None, refl}
-use Rattle.lsp_survey.proofs.Noting.{puts}
+use Rattle.lsp_uris.proofs.Putting.{puts}
 use Rattle.lsp_trail.proofs.BasesHeld.{put_one}
 use Rattle.lsp_trail.proofs.bases.close.Goals as goal
 

@@ -1,5 +1,5 @@
 use Rattle.std.proofs.Common.{None, refl}
-use Rattle.lsp_survey.proofs.Noting.{puts}
+use Rattle.lsp_uris.proofs.Putting.{puts}
 use Rattle.lsp_trail.specs.Marking.{mark_view}
 use Rattle.lsp_trail.specs.declared.step.Step.TheVariants.{Closes}
 use Rattle.lsp_trail.proofs.Marking.{steps_on}

@@ -5,7 +5,7 @@ use Rattle.std.specs.String.{string_eq_equiv}
 use Rattle.std.proofs.lemmas.Option.{same_Some, slice_get-map}
 use Rattle.std.proofs.lemmas.Result.{IfOk-weaker, on_ok_weaker}
 use Rattle.indexmap.proofs.CallerLemmas.{updates-with_value_at}
-use Rattle.lsp_survey.proofs.Noting.{puts-key}
+use Rattle.lsp_uris.proofs.Putting.{puts-key}
 use Rattle.lsp_trail.specs.Marking.{finds_equal, mark_view, stepped, unmarked}
 use Rattle.lsp_trail.proofs.Marking.{step_there}
 use Rattle.lsp_trail.proofs.marks.touch_at.Goals as goal

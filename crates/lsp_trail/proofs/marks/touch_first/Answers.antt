@@ -1,5 +1,5 @@
 use Rattle.std.proofs.Common.{Some, sym, ap, ◌∙◌}
-use Rattle.lsp_survey.proofs.Noting.{puts-key}
+use Rattle.lsp_uris.proofs.Putting.{puts-key}
 use Rattle.lsp_trail.specs.Marking.{finds_equal, mark_view, stepped}
 use Rattle.lsp_trail.proofs.Marking.{steps_on}
 use Rattle.lsp_trail.proofs.marks.touch_first.Goals as goal

@@ -1,5 +1,5 @@
 use Rattle.std.proofs.Common.{None}
-use Rattle.lsp_survey.proofs.Noting.{puts}
+use Rattle.lsp_uris.proofs.Putting.{puts}
 use Rattle.lsp_trail.specs.Uncompared.{shown_view}
 use Rattle.lsp_trail.proofs.uncompared.forget.Goals as goal
 

@@ -3,7 +3,7 @@ use Rattle.std.specs.Str.{bytes_eq, chars}
 use Rattle.std.proofs.Common.{◌∙◌, Some, ap, w32}
 use Rattle.std.proofs.lemmas.Int.{to_z-of_z}
 use mir.Val.{SFits}
-use Rattle.lsp_survey.proofs.Noting.{puts-key}
+use Rattle.lsp_uris.proofs.Putting.{puts-key}
 use Rattle.lsp_trail.specs.Uncompared.{shown_text, shown_view, uncompared_in}
 use Rattle.lsp_trail.specs.declared.uncompared.ShownText.{ShownText}
 use Rattle.lsp_trail.proofs.uncompared.put.Goals as goal

@@ -1,6 +1,6 @@
 use Rattle.std.proofs.Common.{◌∙◌}
 use Rattle.lsp_outline.proofs.Outlining.{same_words}
-use Rattle.lsp_outline.proofs.Walking.{some_content}
+use Rattle.lsp_walk.proofs.Walking.{some_content}
 use Rattle.lsp_outline.proofs.outline.MessageReader.words.Goals as goal
 
 pub returns-clause-ok : goal.returns-clause-ok

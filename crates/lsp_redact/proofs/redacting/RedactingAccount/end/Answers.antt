@@ -1,4 +1,4 @@
-use Rattle.std.proofs.Common.{◌≡◌, ◌++◌, List, ℕ, ap, ◌∙◌, map, max, string_bytes}
+use Rattle.std.proofs.Common.{◌≡◌, ap, ◌∙◌, map, max, string_bytes}
 use Rattle.lsp_docs.specs.Documents.{Terms}
 use Rattle.lsp_judge.proofs.JudgingSteps.{ends_given}
 use Rattle.lsp_verdict.specs.Given.{verdict_view}
@@ -14,15 +14,13 @@ pub returns : goal.returns
 returns c = record {
   closes = λ terms heard stands stood few.
       let events = heard_events heard in
-      let log : string_bytes c.say.new.text
+      let log : string_bytes c.in_ok-left.left
       ≡ written (most_of c.args.self.now.limits) (whole_shape terms events) =
       whole_log (max c.most_of-most.result 1) terms events
       (map kept_view c.args.self.now.kept.items) c.format_of.result c.new-redaction.result
-      c.say.new.redaction (string_bytes c.new-left.result) (string_bytes c.say.new.text)
+      c.said.new.redaction (string_bytes c.in_ok-left.left)
       stands.kept_is (c.format_of.ensures ∙ ap (λ (t : Terms). format_by t.kept) stood.by)
-      c.new-redaction.ensures.names c.new-redaction.ensures.apart c.in_ok-say.ensures
-      ∙ ap (λ (w : List ℕ). w ++ written (max c.most_of-most.result 1) (whole_shape terms events))
-      c.new-left.ensures.bytes
+      c.new-redaction.ensures.names c.new-redaction.ensures.apart c.in_ok-left.ensures
       ∙ ap (λ n. written n (whole_shape terms events)) c.most_of-most.ensures in
       says_whole c.args.self.now.limits terms heard c.args.log.now c.args.end
       c.as_str.result.now (verdict_view c.in_ok-verdict.verdict) (string_bytes c.args.text.now)

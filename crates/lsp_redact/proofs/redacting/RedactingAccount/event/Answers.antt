@@ -1,5 +1,4 @@
-use Rattle.std.proofs.Common.{◌≡◌, ◌++◌, List, ℕ, ap, refl, sym, subst, ◌∙◌, map, max, string_bytes}
-use Rattle.lsp_docs.specs.Documents.{Terms}
+use Rattle.std.proofs.Common.{ap, refl, subst, ◌∙◌, string_bytes}
 use Rattle.lsp_replay.specs.Telling.{HasFate, ShowsFault}
 use Rattle.lsp_replay.specs.declared.seen.Fate.{Fate}
 use Rattle.lsp_replay.proofs.AllHeard.{kept_seen}
@@ -7,13 +6,8 @@ use Rattle.lsp_replay.proofs.Wanting.{on_err}
 use Rattle.lsp_verdict.specs.Given.{verdict_view}
 use Rattle.lsp_verdict.specs.Heard.{heard_events}
 use Rattle.lsp_verdict.specs.Offences.{Offence}
-use Rattle.lsp_verdict.specs.Placed.{Raw}
-use Rattle.lsp_redact.specs.Kept.{kept_of}
-use Rattle.lsp_redact.specs.Records.{most_of, written}
-use Rattle.lsp_redact.specs.Redacting.{AddsLast, format_by, shape_to}
-use Rattle.lsp_redact.specs.View.{kept_view}
-use Rattle.lsp_redact.proofs.AccountKeeps.{apart_here, own_reads, own_speaks}
-use Rattle.lsp_redact.proofs.AccountSteps.{fault_by, log_to, says_last, says_none}
+use Rattle.lsp_redact.proofs.AccountKeeps.{apart_here}
+use Rattle.lsp_redact.proofs.AccountSteps.{says_last, says_none}
 use Rattle.lsp_redact.proofs.redacting.RedactingAccount.event.Goals as goal
 
 pub returns-in_default : goal.returns-in_default
@@ -35,13 +29,9 @@ pub returns-in_err-apart-clause-memory : goal.returns-in_err-apart-clause-memory
 returns-in_err-apart-clause-memory c =
     on_err c.from_residual-in_err-apart.result (λ terms before h stands seen. refl)
 
-pub returns-in_err-say-clause-memory : goal.returns-in_err-say-clause-memory
-returns-in_err-say-clause-memory c =
-    on_err c.from_residual-in_err-say.result (λ terms before h stands seen. refl)
-
-pub returns-in_err-say_last-clause-memory : goal.returns-in_err-say_last-clause-memory
-returns-in_err-say_last-clause-memory c =
-    on_err c.from_residual-in_err-say_last.result (λ terms before h stands seen. refl)
+pub returns-in_err-left-clause-memory : goal.returns-in_err-left-clause-memory
+returns-in_err-left-clause-memory c =
+    on_err c.from_residual-in_err-left.result (λ terms before h stands seen. refl)
 
 pub returns-in_err-outcome-clause-memory : goal.returns-in_err-outcome-clause-memory
 returns-in_err-outcome-clause-memory c =
@@ -56,38 +46,17 @@ returns c = record {
   asked = refl;
   memory = tt;
   says = λ terms before h stands seen.
-      let most = max c.most_of-most.result 1 in
       let rule = c.in-Offends.rule in
-      let events = heard_events before in
-      let event = h.note.event in
       let has = subst (λ (f : Fate). HasFate terms before h f) c.in-Offends.is seen.fate in
-      let reads = own_reads terms before h _ _ _ c.args.seen.now seen stands.clean in
-      let speaks = own_speaks terms before h _ _ _ c.args.seen.now seen stands.clean in
-      let log : string_bytes c.say_last.new.text
-      ≡ written (most_of c.args.self.now.limits) (shape_to terms events h.raw event rule) =
-      log_to most terms events h.raw event rule (map kept_view c.args.self.now.kept.items)
-      c.format_of.result c.new-redaction.result c.say.new.redaction c.say_last.new.redaction
-      (string_bytes c.new-left.result) (string_bytes c.say.new.text)
-      (string_bytes c.say_last.new.text) stands.kept_is
-      (c.format_of.ensures ∙ ap (λ (t : Terms). format_by t.kept) seen.stood.by)
-      c.new-redaction.ensures.names
-      (c.new-redaction.ensures.apart
+      let apart = c.new-redaction.ensures.apart
       ∙ apart_here terms before h _ _ _ c.args.seen.now seen stands.clean rule has.0
-      c.in-Offends.tried c.in_ok-apart.apart c.in-Offends.is c.in_ok-apart.ensures)
-      c.in_ok-say.ensures
-      (subst (λ (raw : Raw). AddsLast most c.say.new.redaction c.say_last.new.redaction raw rule
-      (kept_of events event) (string_bytes c.say.new.text) (string_bytes c.say_last.new.text))
-      (sym seen.is)
-      (c.in_ok-say_last.ensures events event stands.awaits_is reads speaks
-      (fault_by terms before h rule has.0)))
-      ∙ ap (λ (w : List ℕ). w ++ written most (shape_to terms events h.raw event rule))
-      c.new-left.ensures.bytes
-      ∙ ap (λ n. written n (shape_to terms events h.raw event rule)) c.most_of-most.ensures in
+      c.in-Offends.tried c.in_ok-apart.apart c.in-Offends.is c.in_ok-apart.ensures in
       says_last c.args.self.now.limits terms before h rule
       (ShowsFault c.args.seen.now.raw (heard_events before)) _ c.in_ok-outcome.outcome
       c.in_ok-boxed.boxed c.as_str.result.now (verdict_view c.verdict-verdict.result)
       (string_bytes c.args.text.now) (string_bytes c.put_checked.new.text)
-      c.in_ok-boxed.ensures.ok has.0 (c.as_str.ensures.value ∙ log)
+      c.in_ok-boxed.ensures.ok has.0 (c.as_str.ensures.value
+      ∙ c.in_ok-left.ensures terms before h stands seen has.0 c.new-redaction.ensures.names apart)
       (c.verdict-verdict.ensures ∙ ap (λ (o : Offence). o.no)
       (c.last_offence.ensures before h seen.stood.counted seen.few seen.is seen.noted))
       c.in_ok-outcome.ensures;

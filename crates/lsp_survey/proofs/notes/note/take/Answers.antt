@@ -1,5 +1,5 @@
 use Rattle.std.proofs.Common.{None}
-use Rattle.lsp_survey.proofs.Noting.{puts_by}
+use Rattle.lsp_uris.proofs.Putting.{puts_by}
 use Rattle.std.specs.Prelude.{Vec, ℕ}
 use Rattle.std.specs.Global.{Global}
 use Rattle.lsp_survey.proofs.notes.note.take.Goals as goal

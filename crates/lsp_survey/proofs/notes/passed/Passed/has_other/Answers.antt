@@ -3,7 +3,7 @@ use Rattle.std.proofs.Common.{◌∙◌, ap}
 use Rattle.lsp_rpc.specs.Ident.{id_view}
 use Rattle.lsp_rpc.specs.contracts.message.IdPartialEq.TheImpl.{eq-value}
 use Rattle.lsp_session.proofs.Ids.{eq_is_same_id}
-use Rattle.lsp_survey.proofs.PassedSteps.{lookup_in}
+use Rattle.lsp_uris.proofs.Putting.{lookup_in}
 use Rattle.lsp_survey.proofs.notes.passed.Passed.has_other.Goals as goal
 
 pub returns-in-Editor : goal.returns-in-Editor

@@ -1,5 +1,0 @@
-use Rattle.lsp_outline.proofs.Blocks.{marked}
-use Rattle.lsp_outline.proofs.texts.stops.Goals as goal
-
-pub returns : goal.returns
-returns g c = marked c.args.block g.row.N c.requires.0 c.requires.1

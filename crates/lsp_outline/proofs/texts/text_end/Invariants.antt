@@ -1,9 +1,0 @@
-use Rattle.std.proofs.Common.{ℕ, ◌-◌, List, length}
-use Rattle.lsp_outline.specs.Walk.{IsRun}
-use Rattle.lsp_outline.proofs.texts.text_end.Given as goal
-
-abbrev pub invariant-runs : goal.invariant-runs
-invariant-runs l = (s : List ℕ) × IsRun l.bytes l.from l.at s
-
-abbrev pub decreases-runs : goal.decreases-runs
-decreases-runs l = length l.bytes - l.at

@@ -1,9 +1,0 @@
-use Rattle.std.proofs.Common.{◌-◌, length}
-use Rattle.lsp_outline.specs.Texts.{IsPart}
-use Rattle.lsp_outline.proofs.texts.unescaped.Given as goal
-
-abbrev pub invariant-runs : goal.invariant-runs
-invariant-runs l = IsPart l.text l.from l.at l.copy.items
-
-abbrev pub decreases-runs : goal.decreases-runs
-decreases-runs l = length l.text - l.at

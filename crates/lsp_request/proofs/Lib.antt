@@ -1,0 +1,4 @@
+pub mod Appended
+pub mod Fronts
+pub mod Asked
+pub mod Found

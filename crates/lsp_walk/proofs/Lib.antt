@@ -1,0 +1,11 @@
+pub mod Skipping
+pub mod ShortNumerals
+pub mod Lexing
+pub mod Blocks
+pub mod NumberBlocks
+pub mod DigitBlocks
+pub mod Pairs
+pub mod Strings
+pub mod Parts
+pub mod Walking
+pub mod LongBlocks

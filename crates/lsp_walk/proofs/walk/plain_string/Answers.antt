@@ -1,0 +1,18 @@
+use Rattle.std.proofs.Common.{◌≡◌, get_or, arith}
+use Rattle.lsp_walk.proofs.Strings.{after_quote}
+use Rattle.lsp_walk.proofs.Walking.{string_value}
+use Rattle.lsp_walk.proofs.walk.plain_string.Goals as goal
+
+pub plain_text-requires : goal.plain_text-requires
+plain_text-requires c = after_quote c.args.text.now c.args.from c.utf8.text
+    (rw (← c.as_bytes-bytes.ensures.value) (grind arith))
+
+pub returns : goal.returns
+returns c =
+    let d = c.args.text.now in
+    let bytes = c.as_bytes-bytes.ensures.value in
+    let first : get_or d c.args.from 0 ≡ 34 = rw (← bytes) (grind arith) in
+    let end = c.in_ok-end.ensures in
+    string_value d c.args.from c.in_ok-string.close c.in_ok-end.end c.in_ok-string.string.now first
+    c.in_ok-string.ensures
+    (rw (← bytes) end.same) (rw (← bytes) end.ended) end.forward (rw (← bytes) end.within)
