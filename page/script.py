@@ -1,4 +1,5 @@
-"""What lspcheck-page and lspcheck-replay do alike: arguments, the log, and what they write."""
+"""What lspcheck-page, lspcheck-replay and lspcheck-fuzz do alike: arguments, the log, and what they
+write."""
 
 import argparse
 import json
@@ -51,6 +52,17 @@ def number(word):
     return int(word)
 
 
+def seconds(word):
+    """A time that is an argument."""
+    try:
+        value = float(word)
+    except ValueError:
+        value = 0
+    if not 0 < value <= 86400:
+        raise argparse.ArgumentTypeError(f"{word} is not a number of seconds")
+    return value
+
+
 def quoted(name):
     """A name for a message: JSON text if it has characters that a terminal would obey or hide."""
     return name if name.isprintable() else json.dumps(name)
@@ -68,6 +80,17 @@ def write(path, data):
             except BaseException:
                 os.unlink(file.name)
                 raise
+    except OSError as error:
+        raise Failed(f"{quoted(path)}: {error.strerror}", 3) from error
+
+
+def check_writable(path):
+    """Fails if a file can't be written there, before hours are spent."""
+    try:
+        with tempfile.TemporaryFile(dir=os.path.dirname(os.path.abspath(path))):
+            pass
+        if os.path.isdir(path):
+            raise IsADirectoryError(21, "Is a directory")
     except OSError as error:
         raise Failed(f"{quoted(path)}: {error.strerror}", 3) from error
 

@@ -1,7 +1,7 @@
 """Compares what a server answers that was sent the log with what fresh ones answer."""
 
 import re
-from dataclasses import dataclass
+from dataclasses import dataclass, replace
 
 from asking import Plan, answers_of, is_settled, last_of, told
 from drive import Run, at_once
@@ -86,10 +86,10 @@ def telling(number, documents, changed=(), idle=0):
 
 
 class Comparison:
-    """Compares answers after messages of the log."""
+    """Compares answers after messages of the log. To be sure, it asks again after some pauses."""
 
-    def __init__(self, setting):
-        self.setting = setting
+    def __init__(self, setting, pauses=PAUSES, has_diagnostics=True):
+        self.setting, self.pauses, self.has_diagnostics = setting, pauses, has_diagnostics
         # The documents whose `didOpen` is at fault. A fresh server gets these in a change without a
         # range, so that it does not share the fault.
         self.changed = set()
@@ -164,11 +164,16 @@ class Comparison:
             plan = Plan(SHORT_PAUSES, keys, True, True)
             heard = self.hear(documents, (replay, plan), (fresh, plan))
             return {it: question(it, *heard) for it in both(*heard)}
-        plan, more = Plan(PAUSES, keys, True), Plan(PAUSES, keys, True, True)
+        plan, more = self.plans(keys)
         *replays, first, second, spared = heard = self.hear(
             documents, (replay, plan), (replay, more), (fresh, plan), (fresh, plan), (fresh, more)
         )
         return {it: sure(it, replays, first, second, spared) for it in both(*heard)}
+
+    def plans(self, keys):
+        """What is asked at length, without what more is sent, and with it."""
+        plan = Plan(self.pauses, keys, self.has_diagnostics)
+        return plan, replace(plan, sends_more=True)
 
     def with_faults(self, number, uris):
         """The same, and what is at fault in each document about which two fresh servers disagree:
@@ -176,7 +181,7 @@ class Comparison:
         documents = self.told(number, uris)
         if not documents:
             return [], {}
-        plan = Plan((), None, True)
+        plan = Plan((), None, self.has_diagnostics)
         replay, opening, changing = feeds = [
             replaying(number), telling(number, documents), telling(number, documents, uris)
         ]
@@ -190,7 +195,7 @@ class Comparison:
         )
         faults, asked = {}, {it: question(it, *heard[:2]) for it in keys}
         if open_keys:
-            plan, more = Plan(PAUSES, open_keys, True), Plan(PAUSES, open_keys, True, True)
+            plan, more = self.plans(open_keys)
             late = telling(number, documents, uris, 1)
             *replays, opened, again, spared, changed, spared_change = heard = self.hear(
                 documents, (replay, plan), (replay, more), (opening, plan), (opening, plan),

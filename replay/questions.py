@@ -28,7 +28,7 @@ DIAGNOSTICS = (PULLED, PUBLISHED)
 # Members of answers that say nothing of the text.
 SAYS_NOTHING = ("resultId", "data")
 # The folder that one server has for itself.
-OWN_FOLDER = re.compile(r"(lspcheck-replay-\w+/empty)\d+")
+OWN_FOLDER = re.compile(r"(lspcheck-(?:fuzz|replay)-\w+/empty)\d+")
 # The codes of errors that pass: cancelled by the editor or the server, and content modified.
 PASSING = (-32800, -32801, -32802)
 # How many positions a selection range is asked for.

@@ -16,7 +16,7 @@ HEAD = {"jsonrpc": shapes.text, "id": shapes.identifier, "method": shapes.text}
 # What is replaced, and no setting: the process of the editor, and the empty folder of an earlier
 # replay, which wrote this log.
 PROCESS = ("params", "processId")
-EMPTY = re.compile(r'"(file://)?/.*/lspcheck-replay-\w+/empty\d*"')
+EMPTY = re.compile(r'"(file://)?/.*/lspcheck-(fuzz|replay)-\w+/empty\d*"')
 
 
 def choose(recording, folders, is_whole):

@@ -9,7 +9,7 @@ from halving import first_of
 from messages import message_of
 from program import Program
 from servers import Ended
-from session_log import EDITOR, FIRST_LINE, SERVER, Frames, as_records, framed
+from session_log import EDITOR, FIRST_LINE, SERVER, SNAPSHOT, Frames, as_records, framed
 
 
 class SmallCase:
@@ -49,7 +49,7 @@ def log_of(setting, start, number, uris, ends=False):
 
 
 class Transcript:
-    """What both sides send in a run, in order."""
+    """What both sides send in a run, in order, and the snapshots."""
 
     def __init__(self):
         self.frames = {kind: Frames() for kind in (EDITOR, SERVER)}
@@ -58,22 +58,25 @@ class Transcript:
     def add(self, kind, data):
         self.contents += [(kind, content) for content in self.frames[kind].add(data)]
 
-    def write(self, _):
-        """Leaves out the snapshots."""
+    def write(self, records):
+        """Takes snapshots."""
+        self.contents += [(SNAPSHOT, it) for it in records]
 
     def log(self):
-        """The log of the editor's messages and of the answers to them, and how many it sends."""
+        """The log of the editor's messages, the answers to them and the snapshots, and how many
+        messages it sends."""
         asked, kept, count = set(), [], 0
         for kind, content in self.contents:
-            message = message_of(0, 0, content)
-            if kind == EDITOR and not message.is_response:
+            message = message_of(0, 0, content) if kind != SNAPSHOT else None
+            if kind == SNAPSHOT:
+                kept.append(content)
+            elif kind == EDITOR and not message.is_response:
                 count += 1
                 asked.add(message.id)
-                kept.append((kind, content))
+                kept += as_records(kind, framed(content))
             elif kind == SERVER and message.is_response and message.id in asked:
-                kept.append((kind, content))
-        records = (record for kind, content in kept for record in as_records(kind, framed(content)))
-        return FIRST_LINE + b"".join(records), count
+                kept += as_records(kind, framed(content))
+        return FIRST_LINE + b"".join(kept), count
 
 
 def verdict_of(setting, log):

@@ -43,6 +43,7 @@ GATE = [
     f"page/run {PROVED}",
     f"web/run --few {PROVED}",
     f"replay/run {ANY}",
+    f"fuzz/run {ANY}",
     f"tests/golden/run {PROVED}",
     f"tests/cli/run {PROVED}",
     f"tests/shrink/run {PROVED}",

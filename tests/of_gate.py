@@ -20,7 +20,7 @@ GATE = ["test", "tests/gate.py", "tests/side_by_side.py", "recorders/outputs.py"
 UNPROVED = [
     "tests/guarantees", "tests/links", "tests/words", "tests/mutants/run", "tests/compile-fail/run", "tests/api/run",
     "run", "tests/of_checks", "tests/of_run", "recorders/suites", "tests/proxy/run", "recorders/traces/run",
-    "package/completions/run", "replay/run",
+    "package/completions/run", "replay/run", "fuzz/run",
 ]
 OVER_PROVED = [
     "tests/golden/run", "tests/cli/run", "page/run", "web/run", "tests/shrink/run", "tests/redact/run", "package/run",

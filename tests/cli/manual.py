@@ -15,6 +15,7 @@ SOURCES = {
     ],
     "lspcheck-page": ["page/lspcheck-page", "page/*.py"],
     "lspcheck-replay": ["replay/lspcheck-replay", "replay/*.py"],
+    "lspcheck-fuzz": ["fuzz/lspcheck-fuzz", "fuzz/*.py"],
     "lspcheck-proxy": ["recorders/proxy", "recorders/proxy_*.py", "recorders/vscode/*.js"],
     "lspcheck-from-trace": ["recorders/from-trace", "recorders/session_log.py"],
     "lspcheck-shrink": ["recorders/shrink", "recorders/shrink_*.py"],

@@ -72,8 +72,8 @@ def try_pages(trial):
     for name in PAGES:
         shown = 0
         for command, lines in examples((TOP / name).read_text()):
-            if command.startswith("lspcheck-replay "):
-                # This needs a server: replay/run does it.
+            if command.startswith(("lspcheck-replay ", "lspcheck-fuzz ")):
+                # This needs a server: replay/run and fuzz/run do it.
                 continue
             if re.search(r"\bnode ", command) and not shutil.which("node"):
                 print(f"left out, since there is no node: {name}: {command}")

@@ -1,0 +1,19 @@
+"""lspcheck-fuzz as it is, but that it asks fresh servers again after tenths of a second: the server of
+the tests answers at once."""
+
+import runpy
+import sys
+from pathlib import Path
+
+sys.dont_write_bytecode = True
+FUZZ = Path(__file__).resolve().parent.parent
+sys.path.insert(0, str(FUZZ))
+sys.path += [str(FUZZ.parent / folder) for folder in ("replay", "page", "recorders")]
+
+import confirming  # noqa: E402
+import questions  # noqa: E402
+
+confirming.PAUSES = (0.1, 0.2)
+questions.SHORT_PAUSES = (0.05,)
+sys.argv[0] = str(FUZZ / "lspcheck-fuzz")
+runpy.run_path(sys.argv[0], run_name="__main__")

@@ -1,0 +1,96 @@
+"""Runs lspcheck-fuzz for the tests, and reads what it writes."""
+
+import json
+import os
+import signal
+import subprocess
+import sys
+from concurrent.futures import ThreadPoolExecutor
+from pathlib import Path
+
+from processes import SECONDS, with_signals
+
+HERE = Path(__file__).resolve().parent
+TOP = HERE.parent.parent
+COMMAND, HASTY = TOP / "fuzz/lspcheck-fuzz", HERE / "hasty.py"
+SERVER = [sys.executable, "-IS", HERE / "server.py"]
+# How many hunts run at a time.
+WIDTH = 4
+
+
+def words_of(program, *faults, options=(), command=HASTY, server=SERVER, seed=1, language="c"):
+    """The command line of a hunt with the server of the tests."""
+    chosen = ["--language", language] if language and "--start" not in options else []
+    patience = [] if "--wait" in options else ["--wait", SECONDS]
+    seeds = ["--seed", seed] if seed else []
+    words = [sys.executable, command, "--program", program, *chosen, *patience, *seeds, *options]
+    return [str(it) for it in (*words, *server, *faults)]
+
+
+def run(program, *faults, options=(), command=HASTY, server=SERVER, seed=1, language="c", **how):
+    """A hunt to its end."""
+    how = {"capture_output": True, "text": True, "timeout": 2 * SECONDS, **how}
+    words = words_of(
+        program, *faults, options=options, command=command, server=server, seed=seed, language=language
+    )
+    return subprocess.run(words, **how)
+
+
+def run_longer(program, *faults, options=(), is_wanted, **how):
+    """A hunt that takes as long as a busy machine needs for what is wanted."""
+    for seconds in (4, 16, 64, 256):
+        done = run(program, *faults, options=["--seconds", seconds, *options], **how)
+        if is_wanted(done):
+            break
+    return done
+
+
+def until_found(program, *faults, count=1, options=(), seed=1):
+    """The objects of a hunt up to its first drifts. Then it is stopped, or ends by itself."""
+    options = ["--json", "--seconds", SECONDS, *options]
+    words = words_of(program, *faults, options=options, seed=seed)
+    pipes = {"stdout": subprocess.PIPE, "stderr": subprocess.PIPE, "text": True}
+    objects = []
+    with subprocess.Popen(words, preexec_fn=with_signals, **pipes) as process:
+        for line in process.stdout:
+            objects.append(json.loads(line))
+            has_log = "--small" not in options or objects[-1]["is"] == "small"
+            if has_log and sum(it["is"] == "drift" for it in objects) == count:
+                process.send_signal(signal.SIGTERM)
+                break
+        said = process.stderr.read()
+    assert "Traceback" not in said, said
+    return objects
+
+
+def drifts(objects):
+    return [it for it in objects if it["is"] == "drift"]
+
+
+def objects_of(done):
+    return [json.loads(line) for line in done.stdout.splitlines()]
+
+
+def check(program, log):
+    """The first line of the report of lspcheck."""
+    done = subprocess.run([program, "check", "--compared", log], capture_output=True, text=True)
+    return done.stdout.partition("\n")[0] if done.returncode == 0 else f"{done.returncode} {done.stdout}"
+
+
+def replayed(program, log, *faults, server=SERVER):
+    """What lspcheck-replay says about a log."""
+    words = [sys.executable, TOP / "replay/tests/hasty.py", "--program", program, log, *server, *faults]
+    return subprocess.run(list(map(str, words)), capture_output=True, text=True, timeout=SECONDS)
+
+
+def side_by_side(trial, rows):
+    """Runs a trial of each row, some at a time. Fails with all faults, each with its row."""
+    def tried(row):
+        try:
+            return trial(*row)
+        except (AssertionError, LookupError) as error:
+            return f"{row}: {error}"
+
+    with ThreadPoolExecutor(min(WIDTH, len(os.sched_getaffinity(0)))) as pool:
+        faults = [it for it in pool.map(tried, rows) if it]
+    assert not faults, "\n".join(faults)

@@ -1,0 +1,148 @@
+"""Each session is one that lspcheck answers yes: of each feature, in each encoding, and cut down."""
+
+import random
+import subprocess
+import sys
+
+from hunts import TOP, check, side_by_side
+
+sys.path += [str(TOP / it) for it in ("fuzz", "replay", "page")]
+
+import editing  # noqa: E402
+import features  # noqa: E402
+import greeting  # noqa: E402
+import languages  # noqa: E402
+import messages  # noqa: E402
+import session_log  # noqa: E402
+import shrinking  # noqa: E402
+import stores  # noqa: E402
+from cases import Editor  # noqa: E402
+
+# How many sessions of each kind.
+TIMES, MANY = 3, 40
+PLAIN = set(features.PLAIN)
+
+
+def head(encoding, sync=2):
+    """How a session begins."""
+    offers = {"capabilities": {"general": {"positionEncodings": [encoding, "utf-16"]}}}
+    answer = {"capabilities": {"textDocumentSync": sync, "positionEncoding": encoding}}
+    first = [
+        (session_log.EDITOR, messages.request(1, "initialize", offers)),
+        (session_log.SERVER, messages.response(1, "result", answer)),
+        (session_log.EDITOR, messages.notification("initialized", {})),
+    ]
+    records = (it for kind, content in first for it in session_log.as_records(kind, session_log.framed(content)))
+    return session_log.FIRST_LINE + b"".join(records)
+
+
+def sent_of(case, encoding):
+    return list(Editor("c", encoding).messages(case, ["file:///one.c", "file:///two.c"]))
+
+
+def log_of(case, encoding, sync=2):
+    return head(encoding, sync) + b"".join(greeting.records_of(sent_of(case, encoding)))
+
+
+def case_of(seed, chosen, has_ranges=True):
+    return editing.Random(seed, frozenset(chosen), languages.FORMS["c"], None, has_ranges).case()
+
+
+def is_legal(program, log, wanted="yes"):
+    done = subprocess.run([program, "check", "--compared"], input=log, capture_output=True)
+    said = done.stdout.decode().partition("\n")[0]
+    assert said == wanted, (said, log[-2000:])
+
+
+def kinds():
+    """The features of sessions: each alone and with the plain ones, and all at once."""
+    every = set(features.FEATURES)
+    return [*({it} | PLAIN for it in every), every, every - {"cr"}, PLAIN]
+
+
+def feature_is_legal(program, chosen, times):
+    for seed in range(times):
+        for encoding in ("utf-16", "utf-8", "utf-32"):
+            is_legal(program, log_of(case_of(seed, chosen), encoding))
+        whole = case_of(seed, chosen, has_ranges=False)
+        is_legal(program, log_of(whole, "utf-16", sync=1))
+
+
+def sessions_are_legal(program, place):
+    side_by_side(feature_is_legal, [(program, chosen, TIMES) for chosen in kinds()])
+
+
+def many_sessions_are_legal(program, place):
+    side_by_side(feature_is_legal, [(program, chosen, MANY) for chosen in kinds()])
+
+
+def cut_sessions_are_legal(program, place):
+    """Whatever is cut away: what is left is what a coin says."""
+    for seed in range(6):
+        chance = random.Random(seed)
+        tried = []
+
+        def is_shown(case):
+            tried.append(case)
+            return chance.random() < 0.3
+
+        case = case_of(seed, set(features.FEATURES) - {"bursts", "long"})
+        smallest = shrinking.Shrinking(case, is_shown, lambda it: None).smallest()
+        assert len(tried) > 20 and smallest != case
+        for it in [*tried[:: len(tried) // 10], smallest]:
+            is_legal(program, log_of(it, "utf-16"))
+
+
+def cuts_down_to_what_it_takes(_program, _place):
+    """A drift that needs an emoji in the text, and an edit after it."""
+    def is_shown(case):
+        sent = sent_of(case, "utf-16")
+        right, wrong = stores.Store(), stores.Store("counts characters", encoding="utf-32")
+        contents = [it.content for it in sent]
+        one, other = (stores.held(it, contents, "utf-16", "file:///one.c")[0] for it in (right, wrong))
+        return one != other
+
+    found = 0
+    for seed in range(40):
+        case = case_of(seed, PLAIN | {"astral"})
+        if is_shown(case):
+            smallest = shrinking.Shrinking(case, is_shown, lambda it: None).smallest()
+            assert len(smallest.steps) == 1 and len(smallest.texts[0]) <= 4, smallest
+            assert features.features_of(smallest)[0] == "astral", smallest
+            found += 1
+    assert found > 10, found
+
+
+def right_store_holds_the_right_text(_program, _place):
+    """The stores are wrong in what they name alone: the one that names nothing holds what is right."""
+    for seed in range(TIMES):
+        for chosen in kinds():
+            for encoding in ("utf-16", "utf-8", "utf-32"):
+                sent = sent_of(case_of(seed, chosen), encoding)
+                last = [it for it in sent if it.uri == "file:///one.c" and it.text is not None][-1]
+                contents = [it.content for it in sent]
+                held, _ = stores.held(stores.Store(), contents, encoding, last.uri)
+                assert held == last.text, (seed, chosen, encoding)
+
+
+def is_compared(program, place):
+    """A snapshot of another text is noticed: so the right texts are looked at."""
+    case = case_of(1, PLAIN | {"astral"})
+    log = log_of(case, "utf-16")
+    at = log.rindex(b"\nT ")
+    line_end = log.index(b"\n", at + 1)
+    version, uri, size = map(int, log[at + 3 : line_end].split())
+    start = line_end + 1 + uri + 1
+    other = log[:start] + (b"y" if log[start : start + 1] != b"y" else b"z") + log[start + 1 :]
+    (place / "other.log").write_bytes(other)
+    assert "no 702 snapshot" in check(program, place / "other.log"), (version, size)
+
+
+TESTS = [
+    sessions_are_legal,
+    cut_sessions_are_legal,
+    cuts_down_to_what_it_takes,
+    right_store_holds_the_right_text,
+    is_compared,
+]
+LONG_TESTS = [many_sessions_are_legal]
