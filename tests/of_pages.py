@@ -94,6 +94,8 @@ DISBELIEVED = {
     "there are more definitions": ("about 480 definitions", "about 580 definitions"),
     "no call": ("| `run_check` |", "| `run_chek` |"),
     "no clause": ("| `judged`, `verdict` |", "| `judged`, `verdikt` |"),
+    "a clause of another call": ("`no`, `none`, `repeats`", "`yes`, `none`, `repeats`"),
+    "calls without clauses": ("; `verdict`, `no`, `fault`, `ungiven`", ""),
 }
 
 
