@@ -8,6 +8,7 @@ from pathlib import Path
 import blocks
 import checker
 import cuts
+import modules
 import rules
 from files import MARK
 from listing import KINDS, Listing, explained
@@ -17,33 +18,9 @@ from session import MOST_EXPLAINED, read_session
 from smallest import smallest_of, start_smallest
 
 HERE = Path(__file__).resolve().parent
-# In the order in which they are run. Each defines functions for those after it.
-SCRIPTS = [
-    "data.js",
-    "visible.js",
-    "texts.js",
-    "summaries.js",
-    "documents.js",
-    "difference.js",
-    "nodes.js",
-    "json.js",
-    "commands.js",
-    "words.js",
-    "columns.js",
-    "joins.js",
-    "comparison.js",
-    "details.js",
-    "who.js",
-    "overview.js",
-    "smallest.js",
-    "markdown.js",
-    "rows.js",
-    "lanes.js",
-    "search.js",
-    "main.js",
-]
-# What a page with the checker has in addition.
-OF_CHECKER = ["again.js"]
+# What shows a session, and what judges it again in a page that has the checker. What says that one
+# of them failed is there before them.
+SCRIPT, OF_CHECKER, FAULT = "main.mjs", "again.mjs", "fault.mjs"
 MOST_OF_EXIT = 2_000
 # How many violations are listed in any page; in one with more events, each that it shows is.
 LISTED_ALWAYS = 10_000
@@ -116,9 +93,8 @@ class Document:
     def __init__(self, file, has_checker=False):
         self.file = file
         style = (HERE / "page.css").read_text(encoding="utf-8")
-        names = [*SCRIPTS, *(OF_CHECKER if has_checker else [])]
-        code = "".join((HERE / "js" / name).read_text(encoding="utf-8") for name in names)
-        fault = (HERE / "js/fault.js").read_text(encoding="utf-8")
+        code = modules.joined(OF_CHECKER if has_checker else SCRIPT, FAULT)
+        fault = modules.joined(FAULT)
         script = f'"use strict";\n{fault}(async () => {{\n{code}}})().catch(sayFault);\n'
         policy = policy_of(script, style, has_checker)
         self.parts = {"POLICY": policy, "STYLE": style, "SCRIPT": script}

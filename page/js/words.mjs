@@ -1,6 +1,8 @@
 // The objects of `lspcheck explain` in words. One that is not known here is shown as it is.
 
-function shownText(text) {
+import { baseName, element, eventLink, visibleText } from "./nodes.mjs";
+
+export function shownText(text) {
   return element("code", "shown-text", visibleText(text, true));
 }
 
@@ -9,7 +11,7 @@ function shownJson(value) {
 }
 
 // The event that an object names, as a link.
-function shownEvent({ event, side, number }) {
+export function shownEvent({ event, side, number }) {
   const whose = side === "snapshot" ? `snapshot ${number}` : `the ${side}’s message ${number}`;
   return [eventLink(event), ` (${whose})`];
 }
@@ -95,7 +97,7 @@ function shownOffer({ names, more }) {
 }
 
 // For each kind of object: a label, and what is shown for it.
-const FACTS = {
+export const FACTS = {
   __proto__: null,
   begins: ["It begins", (it) => [shownText(it.text)]],
   "header-ends": ["Its first line", (it) => [`ends with ${it.name.toUpperCase()} alone`]],
@@ -185,10 +187,10 @@ const FACTS = {
 };
 
 // What says nothing that is not shown elsewhere.
-const ELSEWHERE = ["event", "end", "suspect", "so"];
+export const ELSEWHERE = ["event", "end", "suspect", "so"];
 
 // An object in words: [label, nodes].
-function inWords(it) {
+export function inWords(it) {
   try {
     const [label, shown] = FACTS[it.is];
     return [label, shown(it)];
@@ -226,7 +228,7 @@ function lateEdits(it) {
     " in a text that had changed since ", ...request];
 }
 
-const NOTES = {
+export const NOTES = {
   __proto__: null,
   "as-notification": noteOn("is a request in LSP 3.17, and was sent as a notification"),
   "as-request": noteOn("is a notification in LSP 3.17, and was sent as a request"),
@@ -256,7 +258,7 @@ const NOTES = {
 };
 
 // A note in words.
-function noteInWords(it) {
+export function noteInWords(it) {
   try {
     return NOTES[it.note](it);
   } catch {

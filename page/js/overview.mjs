@@ -1,18 +1,18 @@
 // The head of the page: the verdict, the first violation, the documents.
 
+import { versionsPart } from "./comparison.mjs";
+import { EDITOR, SNAPSHOT, damage, session, verdict } from "./data.mjs";
+import { aboutRule, explanation, notesList, soPart, violationPart } from "./details.mjs";
+import { namingRows } from "./documents.mjs";
+import { copyButton } from "./markdown.mjs";
+import {
+  baseName, button, count, element, eventLink, folded, source, titled, visibleText,
+} from "./nodes.mjs";
+import { countsOfViolations, endOfServer, placeOfDamage, verdictOf } from "./verdict.mjs";
+import { whoLine } from "./who.mjs";
+import { shownText } from "./words.mjs";
+
 const MOST_CHIPS = 36, MOST_DOCUMENTS = 4;
-
-function verdictOf() {
-  if (verdict.is === "yes") {
-    return ["yes", "Yes", "The session keeps every rule"];
-  }
-  const isNo = verdict.is === "no";
-  return [isNo ? "no" : "bad", isNo ? `No · rule ${verdict.rule}` : "Bad log", verdict.text];
-}
-
-function placeOfDamage() {
-  return `bad log ${damage.code} record ${damage.record}`;
-}
 
 // Where a violation is: an event, or the end of the log.
 function placeOfViolation(violation) {
@@ -39,25 +39,6 @@ function damagePart() {
       "What follows that place is not shown.");
 }
 
-const SIGNALS = { 1: "HUP", 2: "INT", 4: "ILL", 6: "ABRT", 7: "BUS", 8: "FPE", 9: "KILL",
-  11: "SEGV", 13: "PIPE", 15: "TERM" };
-
-// How the server ended, as the recorder wrote it next to the log.
-function endOfServer() {
-  const said = session.exit.map((line) => {
-    const [word, value] = line.split(" ");
-    const name = word === "signal" && SIGNALS[value] ? ` (SIG${SIGNALS[value]})` : "";
-    return line.replace(/^time /, "") + name;
-  });
-  return `The server ended: ${said.join(", ")}.`;
-}
-
-// How many violations lspcheck counted, and how many of them follow from others.
-function countsOfViolations() {
-  const found = session.ending.find((it) => it.is === "offences");
-  return [found?.all ?? 0, found?.following ?? 0];
-}
-
 function factsOfLog() {
   const [editor, server, snapshots] = session.sides, [all, follow] = countsOfViolations();
   const facts = [count(session.events, "event"),
@@ -71,7 +52,7 @@ function factsOfLog() {
   return element("p", "quiet", facts.join(" · "));
 }
 
-function verdictPart() {
+export function verdictPart() {
   const [kind, word, text] = verdictOf();
   return element("header", `verdict verdict-${kind}`,
     element("p", "name", visibleText(session.name ?? "standard input", true)),
@@ -87,12 +68,12 @@ function verdictPart() {
       copyButton()));
 }
 
-function notesPart() {
+export function notesPart() {
   return session.notes.length === 0 ? null : element("section", "card",
     element("h2", "", "Notes ", source("lspcheck")), notesList(session.notes));
 }
 
-function badLogPart() {
+export function badLogPart() {
   if (verdict.is !== "bad log") {
     return null;
   }
@@ -103,13 +84,13 @@ function badLogPart() {
     explanation(facts), aboutRule(verdict.code));
 }
 
-function firstViolation() {
+export function firstViolation() {
   const violation = session.violations[0];
   return !violation || verdict.is !== "no" ? null :
     element("section", "card first", violationPart(violation));
 }
 
-function otherViolations() {
+export function otherViolations() {
   const others = session.violations.slice(1).filter((it) => !it.follows);
   if (others.length === 0) {
     return null;
@@ -178,7 +159,7 @@ function documentPart(number, filter) {
     versionsPart(number));
 }
 
-function documentsPart(filter) {
+export function documentsPart(filter) {
   const found = [...session.documents.keys()].filter((number) => namingRows[number].some(isOfText));
   if (found.length === 0) {
     return null;

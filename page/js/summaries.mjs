@@ -1,5 +1,9 @@
 // What a message says, in one line. It is worked out when a row is drawn or searched.
 
+import { SNAPSHOT, bytesOf, utf8 } from "./data.mjs";
+import { TOKENS } from "./json.mjs";
+import { count } from "./nodes.mjs";
+
 const LONGEST = 160, LONGEST_QUOTED = 40, MOST_NAMED = 20;
 const NOTICES = { 1: "error", 2: "warning", 3: "info", 4: "log", 5: "debug" };
 const SYNCS = ["none", "full", "incremental"];
@@ -218,7 +222,7 @@ function messageInBrief(message, asked) {
 }
 
 // What a row's message says. The page says so if it does not have the message.
-function summaryOf(row) {
+export function summaryOf(row) {
   row.summary ??= workedOutSummary(row);
   return row.summary;
 }

@@ -1,5 +1,10 @@
 // The smallest session that shows the violation: the editor's messages, to run them again.
 
+import { lspcheckCommand, shownCommand } from "./commands.mjs";
+import { session, verdict } from "./data.mjs";
+import { count, element, folded } from "./nodes.mjs";
+import { ODD, namedText } from "./visible.mjs";
+
 // JSON that means the same, where each character that cannot be seen is escaped. Between values,
 // there may be a tab or a CR.
 function escapedJson(text) {
@@ -9,17 +14,17 @@ function escapedJson(text) {
 }
 
 // Its lines, if the page has it: comments, and messages with `---` between them.
-function smallestLines() {
+export function smallestLines() {
   const lines = (session.smallest ?? "").split("\n").slice(0, -1);
   return lines.map((it) => (it.startsWith("#") ? namedText(it) : escapedJson(it)));
 }
 
 // What they lack of the session that shows the violation.
-function smallestLack() {
+export function smallestLack() {
   return verdict.rule === 702 ? ", without its snapshot" : "";
 }
 
-function smallestPart() {
+export function smallestPart() {
   const lines = smallestLines();
   return lines.length === 0 ? null : element("section", "card smallest",
     element("h2", "", "The smallest session that shows this"),

@@ -1,5 +1,9 @@
 // In a page that has the checker and its log: whether lspcheck says the same here.
 
+import "./main.mjs";
+import { blocks, loaded, session } from "./data.mjs";
+import { element, visibleText } from "./nodes.mjs";
+
 const AGAIN = {
   same: ["good", "Judged again here: the same.", ""],
   different: ["bad", "Judged again here: NOT the same: ", ". Do not rely on this page."],

@@ -1,10 +1,10 @@
 // Checks that the runs in which two lists differ lead from one to the other, and are the shortest.
 
-const assert = require("assert");
-const { load } = require("./scripts.js");
+import assert from "node:assert";
+import { load, write } from "./scripts.mjs";
 
-const names = ["differences", "markedPair", "comparedTexts", "linesOf", "piecesOf", "indentedJson"];
-let page;
+const modules = ["visible.mjs", "texts.mjs", "difference.mjs", "json.mjs"];
+const page = Object.assign({}, ...await Promise.all(modules.map((name) => load(name))));
 
 // Numbers from a seed, so that each run tests the same.
 function chances(seed) {
@@ -45,10 +45,7 @@ function checkAll() {
     check(list(), list());
   }
 
-  // Values of the page are of another realm: they are compared as JSON.
-  function same(made, wanted) {
-    assert.strictEqual(JSON.stringify(made), JSON.stringify(wanted));
-  }
+  const same = assert.deepStrictEqual;
 
   same(page.markedPair("bxé😀", "bé😀x"), [
     [["b", false], ["x", true], ["é😀", false]],
@@ -67,10 +64,7 @@ function checkAll() {
   // Neither quadratic time nor the stack: one long line, and many lines that all differ.
   same(page.linesOf("z".repeat(600000)).length, 1);
   same(page.comparedTexts(page.linesOf("a\n".repeat(200000)), page.linesOf("a\r\n".repeat(200000))).length, 200001);
-  process.stdout.write('"good"');
+  write("good");
 }
 
-load(["visible.js", "texts.js", "difference.js", "json.js"], names).then((loaded) => {
-  page = loaded;
-  checkAll();
-});
+checkAll();

@@ -1,12 +1,17 @@
 // The two lanes: only what is seen is in the tree of the page. Each row has the same height; an
 // open one has its details below it, whose height is measured.
 
+import { rowOfEvent, session } from "./data.mjs";
+import { detailsOf } from "./details.mjs";
+import { count, element } from "./nodes.mjs";
+import { allItems, classesOf, lineOf } from "./rows.mjs";
+
 const MARGIN = 600, MOST_PRINTED = 1500;
 
-class Lanes {
+export class Lanes {
   constructor(container) {
     this.container = container;
-    this.shown = items;
+    this.shown = allItems;
     this.nodes = new Map();
     this.heights = new Map();
     this.selected = null;

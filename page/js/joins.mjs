@@ -1,5 +1,8 @@
 // Requests and their answers in words: what answers what, how much later, and why none came.
 
+import { SIDES, damage, rowOfEvent, session } from "./data.mjs";
+import { count, eventLink } from "./nodes.mjs";
+
 const FRAME_RULES = [101, 102, 103, 104, 105, 106];
 
 function later(from, to) {
@@ -40,7 +43,7 @@ function whyUnanswered(row) {
 }
 
 // What an event has to do with others.
-function joinsOf(row) {
+export function joinsOf(row) {
   const said = [];
   if (row.kind === "request" && row.partner) {
     said.push(` · answered ${later(row.event, row.partner)}, by `, eventLink(row.partner));
@@ -74,7 +77,7 @@ function mayCause(cause, effect) {
 }
 
 // What a violation that follows follows from: the last earlier one that may have caused it.
-function causeOf(violation) {
+export function causeOf(violation) {
   const earlier = session.violations.slice(0, session.violations.indexOf(violation))
     .filter((it) => !it.follows);
   return earlier.findLast((it) => mayCause(it, violation)) ?? earlier[earlier.length - 1];

@@ -1,5 +1,18 @@
 // Puts the parts together, and follows links and keys.
 
+import { EDITOR, SNAPSHOT, rowOfEvent, session } from "./data.mjs";
+import { Lanes } from "./lanes.mjs";
+import { button, copiedText, element, titled } from "./nodes.mjs";
+import {
+  badLogPart, documentsPart, firstViolation, notesPart, otherViolations, verdictPart,
+} from "./overview.mjs";
+import { allItems } from "./rows.mjs";
+import { Search } from "./search.mjs";
+import { smallestPart } from "./smallest.mjs";
+import { verdictOf } from "./verdict.mjs";
+import { namedText } from "./visible.mjs";
+import { laneHeads } from "./who.mjs";
+
 const lanesNode = document.getElementById("lanes");
 const lanes = new Lanes(lanesNode);
 const search = new Search(lanes);
@@ -7,7 +20,7 @@ const search = new Search(lanes);
 // Goes to an event, or to the place where it was left out.
 function goToEvent(event, isOpen = true) {
   const row = rowOfEvent(event) ??
-    items.find((it) => it.kind === "gap" && it.gap.from <= event && event <= it.gap.to);
+    allItems.find((it) => it.kind === "gap" && it.gap.from <= event && event <= it.gap.to);
   if (!row) {
     return;
   }

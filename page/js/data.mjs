@@ -1,7 +1,7 @@
 // The data of the page, which is compressed: the index, and blocks of the contents of events.
 
 // The bytes of a block. Browsers decompress in pieces, so this waits.
-async function loaded(id) {
+export async function loaded(id) {
   const packed = atob(document.getElementById(id).textContent);
   const bytes = new Uint8Array(packed.length);
   for (let at = 0; at < packed.length; at += 1) {
@@ -11,41 +11,46 @@ async function loaded(id) {
   return new Uint8Array(await new Response(unpacked).arrayBuffer());
 }
 
-const utf8 = new TextDecoder("utf-8", { fatal: true, ignoreBOM: true });
+export const utf8 = new TextDecoder("utf-8", { fatal: true, ignoreBOM: true });
 
-const session = JSON.parse(utf8.decode(await loaded("session")));
-const blocks = await Promise.all(
+export const session = JSON.parse(utf8.decode(await loaded("session")));
+export const blocks = await Promise.all(
   Array.from({ length: session.blocks }, (_, number) => loaded(`contents-${number}`)));
 
 // What `explain` wrote first, and what `show --all` wrote about a damaged place, if there is one.
-const verdict = session.said[0], damage = session.ending.find((it) => it.is === "bad log");
+export const verdict = session.said[0], damage = session.ending.find((it) => it.is === "bad log");
 
-const EDITOR = 0, SERVER = 1, SNAPSHOT = 2;
-const SIDES = ["editor", "server", "snapshot"];
+export const EDITOR = 0, SERVER = 1, SNAPSHOT = 2;
+export const SIDES = ["editor", "server", "snapshot"];
 
 // The rows, with a member for each column of the index.
-const rows = session.rows.event.map((event, index) =>
+export const rows = session.rows.event.map((event, index) =>
   ({ event, index, violation: null, notes: [] }));
 for (const [name, values] of Object.entries(session.rows)) {
   values.forEach((value, index) => {
     rows[index][name] = value;
   });
 }
-// Where the content of a row begins in its block: in each, they are one after the other.
-let filled = null, start = 0;
 for (const row of rows) {
   row.kind = session.kinds[row.kind];
   row.method = session.methods[row.method];
   row.uri = session.documents[row.document];
-  if (row.block >= 0) {
-    row.start = row.block === filled ? start : 0;
-    [filled, start] = [row.block, row.start + row.bytes];
+}
+
+// Finds where the content of each row begins in its block: there, they are one after the other.
+function placeContents() {
+  let filled = null, next = 0;
+  for (const row of rows.filter((it) => it.block >= 0)) {
+    row.start = row.block === filled ? next : 0;
+    [filled, next] = [row.block, row.start + row.bytes];
   }
 }
 
-const indexOfEvent = new Map(rows.map((row) => [row.event, row.index]));
+placeContents();
 
-function rowOfEvent(event) {
+export const indexOfEvent = new Map(rows.map((row) => [row.event, row.index]));
+
+export function rowOfEvent(event) {
   return rows[indexOfEvent.get(event)];
 }
 
@@ -61,7 +66,7 @@ for (const note of session.notes) {
 }
 
 // The bytes of a content, or null if it was left out of the page.
-function bytesOf(row) {
+export function bytesOf(row) {
   return row.block < 0 ? null : blocks[row.block].subarray(row.start, row.start + row.bytes);
 }
 
@@ -94,13 +99,13 @@ function textOfBytes(bytes) {
 }
 
 // The content of a row's event, or null if it was left out of the page.
-function contentOf(row) {
+export function contentOf(row) {
   const bytes = bytesOf(row);
   return bytes && textOfBytes(bytes);
 }
 
 // The JSON value of a row's message, or undefined.
-function messageOf(row) {
+export function messageOf(row) {
   try {
     return JSON.parse(contentOf(row)) ?? undefined;
   } catch {

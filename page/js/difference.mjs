@@ -4,7 +4,7 @@ const MOST_STEPS = 800;
 
 // The runs in which two lists differ: [start and end in a, start and end in b]. Between two runs
 // both are equal. If they differ in more than MOST_STEPS items, all between the ends is one run.
-function differences(a, b) {
+export function differences(a, b) {
   let start = 0, endA = a.length, endB = b.length;
   while (start < endA && start < endB && a[start] === b[start]) {
     start += 1;
@@ -113,7 +113,7 @@ function markedLine(characters, spans) {
 }
 
 // Both of two lines in pieces. Either may be missing: null.
-function markedPair(a, b) {
+export function markedPair(a, b) {
   if (a === null || b === null) {
     return [a === null ? null : [[a, true]], b === null ? null : [[b, true]]];
   }
@@ -130,7 +130,7 @@ const CONTEXT = 3;
 // Two texts as lists of lines, compared. An item is { pair, lineA, lineB, isEqual } with a line of
 // each (null if there is none) and their numbers from 0, or { skipped, lineA, lineB }: this many
 // equal lines from these on are not shown.
-function comparedTexts(linesA, linesB) {
+export function comparedTexts(linesA, linesB) {
   const items = [];
   let at = 0, shift = 0;
   const addEqual = (from, to) => {

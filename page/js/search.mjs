@@ -1,5 +1,11 @@
 // What is searched for, and which rows it leaves.
 
+import { EDITOR, SERVER, SNAPSHOT, contentOf, rows, session } from "./data.mjs";
+import { baseName, button, count, element, titled } from "./nodes.mjs";
+import { allItems } from "./rows.mjs";
+import { summaryOf } from "./summaries.mjs";
+import { namedText } from "./visible.mjs";
+
 const CHOICES = new Map([
   ["editor", (row) => row.side === EDITOR],
   ["server", (row) => row.side === SERVER],
@@ -32,7 +38,7 @@ function excerptOf(said, lower, at, length) {
   return `… ${text.slice(from, at + length + AROUND_WORD).replace(/\s+/g, " ")} …`;
 }
 
-class Search {
+export class Search {
   constructor(lanes) {
     this.lanes = lanes;
     this.words = this.input("search", "method or words", "Search in methods and messages ( / )");
@@ -121,9 +127,9 @@ class Search {
     const round = this.round += 1;
     rows.forEach((row) => { row.excerpt = undefined; });
     this.clear.hidden = this.isEmpty;
-    const shown = this.isEmpty ? items : [];
+    const shown = this.isEmpty ? allItems : [];
     let until = performance.now() + SLICE;
-    for (const item of this.isEmpty ? [] : items) {
+    for (const item of this.isEmpty ? [] : allItems) {
       if (this.isChosen(item, id, documentNumber) && this.isFound(item, words, isPlain)) {
         shown.push(item);
       }

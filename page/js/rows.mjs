@@ -1,5 +1,15 @@
 // The rows of the two lanes: what is in each, and how it is drawn.
 
+import {
+  EDITOR, SERVER, SIDES, SNAPSHOT, damage, indexOfEvent, rowOfEvent, rows, session,
+} from "./data.mjs";
+import { gaps } from "./documents.mjs";
+import { factsOf } from "./facts.mjs";
+import { baseName, button, count, element, visibleText } from "./nodes.mjs";
+import { summaryOf } from "./summaries.mjs";
+import { endOfServer, placeOfDamage } from "./verdict.mjs";
+import { namedText } from "./visible.mjs";
+
 const SPINE = 132, TRACKS = 6;
 
 // The rows of the lanes: those of events, of gaps where a long log was cut, and of the end.
@@ -20,7 +30,7 @@ function laneItems() {
   return items;
 }
 
-const items = laneItems();
+export const allItems = laneItems();
 
 // The request whose line ends at an event: at its answer, or at its cancel if it has no answer.
 const endingAt = new Map();
@@ -33,7 +43,7 @@ function endOf(request) {
 function layTracks() {
   const free = [EDITOR, SERVER].map(() => Array.from({ length: TRACKS }, (_, track) => track));
   const active = [new Set(), new Set()];
-  for (const item of items) {
+  for (const item of allItems) {
     item.passing = active.map((tracks) => [...tracks]);
     const ending = endingAt.get(item.event);
     if (ending) {
@@ -201,7 +211,7 @@ function gapCell(gap) {
   return made;
 }
 
-function lineOf(item, height) {
+export function lineOf(item, height) {
   if (item.kind === "gap" || item.kind === "end") {
     return element("div", "line", item.kind === "gap" ? gapCell(item.gap) : endCell());
   }
@@ -209,7 +219,7 @@ function lineOf(item, height) {
   return element("div", "line", ...(item.side === SERVER ? cells.reverse() : cells));
 }
 
-function classesOf(item) {
+export function classesOf(item) {
   const violation = item.violation;
   const bad = violation ? (violation.follows ? "follows" : "bad") : "";
   const suspect = item.event && suspectEvents.has(item.event) && !violation ? "is-suspect" : "";

@@ -1,62 +1,24 @@
 // What is shown when an event is opened: its violation, the texts that differ, its content.
 
+import { columnsPart } from "./columns.mjs";
+import { isProved, lspcheckCommand, shownCommand, textCommand } from "./commands.mjs";
+import { comparison, versionLabel, versionsPart } from "./comparison.mjs";
+import { EDITOR, SIDES, SNAPSHOT, contentOf, rowOfEvent, session } from "./data.mjs";
+import { textsThatDiffer } from "./differing.mjs";
+import { editorNumberAt, hasText, linesAfter, versionRows } from "./documents.mjs";
+import { factsOf } from "./facts.mjs";
+import { causeOf, joinsOf } from "./joins.mjs";
+import { indentedJson } from "./json.mjs";
+import {
+  count, element, eventLink, fill, folded, longText, prose, source, visibleText,
+} from "./nodes.mjs";
+import { summaryOf } from "./summaries.mjs";
+import { ELSEWHERE, inWords, noteInWords, shownEvent, shownText } from "./words.mjs";
+
 const MOST_NOTES = 60;
 
-function hasText(row) {
-  return row.document >= 0 && settingRows[row.document].length > 0;
-}
-
-// The objects of one kind that explain a violation.
-function factsOf(violation, kind) {
-  return violation.facts.filter((it) => it.is === kind);
-}
-
-// The text of the editor itself at a violation, and the row up to which its messages count.
-function ownText(violation, row) {
-  if (row.side === SNAPSHOT) {
-    const set = rowOfVersion(row.document, row.version, row.index);
-    return [contentOf(row), set ?? row];
-  }
-  if (violation.rule === 608) {
-    return [messageOf(row)?.params?.text, row];
-  }
-  const first = factsOf(violation, "snapshot")[0];
-  const snapshot = first && rowOfEvent(first.event);
-  return [snapshot && contentOf(snapshot), row];
-}
-
-// Both texts of a 608 or a 702: [by the messages, the editor's own, who says so], or null.
-function bothTexts(violation, row) {
-  if (violation === session.violations[0] && session.texts) {
-    return [linesOf(session.texts.messages), linesOf(session.texts.editor), "lspcheck"];
-  }
-  if (!hasText(row)) {
-    return null;
-  }
-  const [own, until] = ownText(violation, row);
-  const made = linesAfter(row.document, until.index, until === row && row.side === EDITOR);
-  return made && typeof own === "string" ? [made, linesOf(own), "page"] : null;
-}
-
-function textsThatDiffer(violation, row) {
-  if (violation.rule !== 608 && violation.rule !== 702) {
-    return null;
-  }
-  const texts = bothTexts(violation, row);
-  if (!texts) {
-    return element("p", "quiet", "This page does not have both texts.");
-  }
-  const own = violation.rule === 608 ? "Saved by the editor" : "In the editor";
-  const said = texts[2] === "lspcheck" ? "Both texts are what lspcheck wrote; " :
-    "The text on the left was worked out by this page, not by lspcheck; ";
-  const left = texts[2] === "lspcheck" ? session.texts : null;
-  return element("section", "texts",
-    comparison(texts[0], texts[1], ["By the messages"], [own], texts[2], left),
-    element("p", "quiet", said, "what differs is marked by this page."));
-}
-
 // What `explain` wrote, in words.
-function explanation(facts) {
+export function explanation(facts) {
   const list = element("dl", "facts");
   for (const it of facts.filter((fact) => !ELSEWHERE.includes(fact.is))) {
     const [label, shown] = inWords(it);
@@ -66,13 +28,13 @@ function explanation(facts) {
 }
 
 // The explanation of a violation in one sentence, if lspcheck wrote one.
-function soPart(violation) {
+export function soPart(violation) {
   const [so] = factsOf(violation, "so");
   return so ? element("p", "so", so.sentence, " ", source("lspcheck")) : null;
 }
 
 // Notes in words. Of very many, the rest is shown on demand.
-function notesList(notes) {
+export function notesList(notes) {
   const item = (it) => element("li", "", ...noteInWords(it)), rest = notes.slice(MOST_NOTES);
   return element("ul", "notes", ...notes.slice(0, MOST_NOTES).map(item),
     rest.length === 0 ? null :
@@ -84,7 +46,7 @@ function whatWasWritten(violation) {
 }
 
 // What RULES says about a rule.
-function aboutRule(rule) {
+export function aboutRule(rule) {
   const said = session.rules[rule];
   if (!said) {
     return null;
@@ -141,7 +103,7 @@ function whyItIs(violation) {
 }
 
 // All that is known about a violation: what differs first.
-function violationPart(violation) {
+export function violationPart(violation) {
   const row = rowOfEvent(violation.event);
   return element("div", "violation-part",
     row ? columnsPart(violation, row) : null,
@@ -215,7 +177,7 @@ function versionLinks(row) {
 }
 
 // What is below a row when it is open.
-function detailsOf(row) {
+export function detailsOf(row) {
   const whose = row.side === SNAPSHOT ? "snapshot" : `${SIDES[row.side]} message`;
   const made = element("div", "details",
     element("p", "about", eventLink(row.event), ` · ${whose} ${row.number}`,

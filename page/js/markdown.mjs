@@ -1,5 +1,14 @@
 // What one pastes into an issue: the verdict, the words of lspcheck, what differs, and versions.
 
+import { rowOfEvent, session } from "./data.mjs";
+import { comparedTexts } from "./difference.mjs";
+import { bothTexts } from "./differing.mjs";
+import { button, count } from "./nodes.mjs";
+import { smallestLack, smallestLines } from "./smallest.mjs";
+import { verdictOf } from "./verdict.mjs";
+import { namedText } from "./visible.mjs";
+import { editorName, serverName } from "./who.mjs";
+
 const MOST_OF_DIFFERENCE = 24;
 
 // Text as code, in more backquotes than it has in a row.
@@ -73,7 +82,7 @@ function copy(text) {
   return isCopied;
 }
 
-function copyButton() {
+export function copyButton() {
   const made = button("plain copy", "copy as Markdown", () => {
     made.textContent = copy(markdown()) ? "copied" : "the browser does not allow it";
     setTimeout(() => { made.textContent = "copy as Markdown"; }, 2000);

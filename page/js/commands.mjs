@@ -1,6 +1,10 @@
 // Commands that a reader can copy into a shell. Each word is quoted, so that a name from the log is
 // never more than a word.
 
+import { session } from "./data.mjs";
+import { element } from "./nodes.mjs";
+import { COMBINING, ODD, escapedByte } from "./visible.mjs";
+
 // A word for a shell like bash: as it is, in quotes, or with escapes for what cannot be seen.
 function shellWord(text) {
   if (/^[\w@%+=:,./-]+$/.test(text)) {
@@ -33,7 +37,7 @@ function logWord() {
 }
 
 // A command of lspcheck on this log, or null if one of its words cannot be an argument.
-function lspcheckCommand(...words) {
+export function lspcheckCommand(...words) {
   if (words.some((it) => it.includes("\0"))) {
     return null;
   }
@@ -43,14 +47,14 @@ function lspcheckCommand(...words) {
 }
 
 // A command as it is shown: its own characters, so that it can be copied.
-function shownCommand(command) {
+export function shownCommand(command) {
   return element("code", "shown-text command", command);
 }
 
 // What writes the text after an editor's message: that of lspcheck, which may be proved.
-function textCommand(number, uri) {
+export function textCommand(number, uri) {
   return number > 0 ? lspcheckCommand("text", "--all", String(number), uri) : null;
 }
 
 // Whether the program that judged the log was proved.
-const isProved = !session.version.includes("not proved");
+export const isProved = !session.version.includes("not proved");

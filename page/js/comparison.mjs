@@ -1,5 +1,10 @@
 // Two texts side by side, the characters that differ marked, equal lines shown on demand.
 
+import { SNAPSHOT } from "./data.mjs";
+import { comparedTexts, markedPair } from "./difference.mjs";
+import { linesOfVersion, versionRows } from "./documents.mjs";
+import { button, count, element, fill, folded, source, titled, visibleText } from "./nodes.mjs";
+
 const MOST_COMPARED = 300, MOST_OF_PIECE = 400;
 
 // A piece of a line, without its middle if it is very long.
@@ -63,7 +68,7 @@ function comparedRow(item, lines, first) {
 
 // Two texts, given as lines. Of texts that were cut, `left` says how many lines are before them and
 // after them.
-function comparison(a, b, labelA, labelB, who, left = null) {
+export function comparison(a, b, labelA, labelB, who, left = null) {
   const items = comparedTexts(a, b);
   if (items.every((it) => it.skipped || it.isEqual)) {
     return element("p", "quiet", "Both texts are equal. ", source(who));
@@ -91,14 +96,14 @@ function comparison(a, b, labelA, labelB, who, left = null) {
 const SHORT = { "textDocument/didOpen": "open", "textDocument/didClose": "close",
   "textDocument/didSave": "save", "textDocument/didChange": "change" };
 
-function versionLabel(row) {
+export function versionLabel(row) {
   const what = row.side === SNAPSHOT ? "snapshot" : SHORT[row.method];
   return `version ${row.version}, ${what}, event ${row.event}`;
 }
 
 // A choice of two versions or snapshots of a document, and what differs between them; first the one
 // that is given, or the last, and the one before it.
-function versionsPart(documentNumber, chosen = null) {
+export function versionsPart(documentNumber, chosen = null) {
   const found = versionRows(documentNumber);
   return found.length < 2 ? null :
     folded("Compare two versions", () => versionChoice(found, chosen ?? found[found.length - 1]));

@@ -1,5 +1,9 @@
 // Who took part in the session, and on what they agreed.
 
+import { session } from "./data.mjs";
+import { element, titled } from "./nodes.mjs";
+import { namedText } from "./visible.mjs";
+
 const VERSION_NUMBER = /\d+(?:\.\d+)+/;
 
 // A name with the number in its version, which may be a sentence.
@@ -15,9 +19,9 @@ function longName({ name, version }) {
   return namedText([name, version].filter(Boolean).join(" "));
 }
 
-const editorName = shortName(session.client), serverName = shortName(session.server);
+export const editorName = shortName(session.client), serverName = shortName(session.server);
 
-function whoLine() {
+export function whoLine() {
   const names = `${editorName ?? "an editor without a name"} to ` +
     `${serverName ?? "a server without a name"}`;
   return titled(element("p", "who", element("strong", "", names),
@@ -25,7 +29,7 @@ function whoLine() {
   [session.client, session.server].map(longName).filter(Boolean).join("; "));
 }
 
-function laneHeads() {
+export function laneHeads() {
   const head = (label, name) => element("div", "", name ? `${label}: ${name}` : label);
   return [head("Editor", editorName), element("div", "", "event"), head("Server", serverName)];
 }

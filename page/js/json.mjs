@@ -1,10 +1,10 @@
 // JSON with line ends and indents. Its tokens stay as they were sent: numbers, escapes, repeated
 // names.
 
-const TOKENS = /"[^"\\]*(?:\\.[^"\\]*)*"|[[\]{},:]|[^\s"[\]{},:]+/gs;
+export const TOKENS = /"[^"\\]*(?:\\.[^"\\]*)*"|[[\]{},:]|[^\s"[\]{},:]+/gs;
 
 // The content of a message, with line ends and indents if it is JSON, and otherwise as it is.
-function indentedJson(content) {
+export function indentedJson(content) {
   try {
     JSON.parse(content);
   } catch {

@@ -1,12 +1,15 @@
 // The text of a document after any message, made by this page, and what happened to each document.
 
+import { EDITOR, SNAPSHOT, contentOf, messageOf, rows, session } from "./data.mjs";
+import { changed, linesOf } from "./texts.mjs";
+
 const SETS_TEXT = ["textDocument/didOpen", "textDocument/didChange", "textDocument/didClose"];
 // How many changes are made before a text is kept, so that not all are made again for the next one.
 const KEPT_EVERY = 400;
 
 // For each document, the rows that open, change or close it, and all rows that name it.
-const settingRows = session.documents.map(() => []);
-const namingRows = session.documents.map(() => []);
+export const settingRows = session.documents.map(() => []);
+export const namingRows = session.documents.map(() => []);
 for (const row of rows) {
   if (row.document >= 0) {
     namingRows[row.document].push(row);
@@ -16,8 +19,13 @@ for (const row of rows) {
   }
 }
 
+// Whether a message of the editor sets the text of the row's document.
+export function hasText(row) {
+  return row.document >= 0 && settingRows[row.document].length > 0;
+}
+
 const checkpoints = session.left ? session.left.checkpoints : [];
-const gaps = session.left ? session.left.gaps : [];
+export const gaps = session.left ? session.left.gaps : [];
 const keptTexts = new Map();
 
 // The lines of a document after a row, given those before it: null if it is not open, undefined if
@@ -44,7 +52,7 @@ function linesAfterGap(documentNumber, gap) {
 }
 
 // The number of the editor's last message up to a row's event, 0 if there is none.
-function editorNumberAt(row) {
+export function editorNumberAt(row) {
   const before = rows.slice(0, row.index + 1).findLast((it) => it.side === EDITOR);
   const gap = gapBetween(before?.event ?? 0, row.event);
   return gap ? gap.editor : before?.number ?? 0;
@@ -57,7 +65,7 @@ function gapBetween(before, after) {
 
 // The lines of a document after all rows up to an index; those that break a rule are skipped, as
 // `lspcheck text --all` does, but for the last if `isLastMade`.
-function linesAfter(documentNumber, index, isLastMade = false) {
+export function linesAfter(documentNumber, index, isLastMade = false) {
   const setting = settingRows[documentNumber];
   const kept = keptTexts.get(documentNumber) ?? [];
   keptTexts.set(documentNumber, kept);
@@ -80,19 +88,19 @@ function linesAfter(documentNumber, index, isLastMade = false) {
 }
 
 // The row of the message that set a version of a document, at or before an index.
-function rowOfVersion(documentNumber, version, index) {
+export function rowOfVersion(documentNumber, version, index) {
   const isIt = (row) => row.version === version && row.index <= index && !row.violation;
   return settingRows[documentNumber].findLast(isIt);
 }
 
 // The rows that give a document a version: the messages that set one, and the snapshots.
-function versionRows(documentNumber) {
+export function versionRows(documentNumber) {
   return namingRows[documentNumber].filter((row) => row.version !== null &&
     (row.side === SNAPSHOT || (row.side === EDITOR && SETS_TEXT.includes(row.method))));
 }
 
 // The lines of the text that a row sets or shows, or null or undefined as for `linesAfter`.
-function linesOfVersion(row) {
+export function linesOfVersion(row) {
   if (row.side !== SNAPSHOT) {
     return linesAfter(row.document, row.index, true);
   }

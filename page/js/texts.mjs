@@ -2,7 +2,7 @@
 // "Text Document Synchronization". What lspcheck proves is not used here.
 
 // The lines of a text, each with its line end: CR LF, LF or CR. The last one has none.
-function linesOf(text) {
+export function linesOf(text) {
   const lines = [];
   let start = 0;
   for (const found of text.matchAll(/\r\n|\r|\n/g)) {
@@ -14,11 +14,11 @@ function linesOf(text) {
   return lines;
 }
 
-function lineEndOf(line) {
+export function lineEndOf(line) {
   return line.endsWith("\r\n") ? 2 : /[\r\n]$/.test(line) ? 1 : 0;
 }
 
-function unitsOf(character, encoding) {
+export function unitsOf(character, encoding) {
   const code = character.codePointAt(0);
   if (encoding === "utf-32") {
     return 1;
@@ -64,7 +64,7 @@ function replaced(list, first, count, items) {
 }
 
 // The lines after one change. A CR before the change and an LF in it become one line end.
-function changed(lines, change, encoding) {
+export function changed(lines, change, encoding) {
   if (!change.range) {
     return linesOf(change.text);
   }

@@ -9,15 +9,15 @@ const NAMES = {
   "\u2067": "RLI", "\u2068": "FSI", "\u2069": "PDI", "\ufeff": "BOM",
 };
 
-const ODD = /[\p{Cc}\p{Cf}\p{Cs}\p{Co}\p{Zl}\p{Zp}]|(?! )\p{Zs}/u;
-const COMBINING = /\p{M}/u;
+export const ODD = /[\p{Cc}\p{Cf}\p{Cs}\p{Co}\p{Zl}\p{Zp}]|(?! )\p{Zs}/u;
+export const COMBINING = /\p{M}/u;
 
-function codePoint(character) {
+export function codePoint(character) {
   return "U+" + character.codePointAt(0).toString(16).toUpperCase().padStart(4, "0");
 }
 
 // A byte that is not UTF-8 is a lone surrogate in the data.
-function escapedByte(character) {
+export function escapedByte(character) {
   const code = character.codePointAt(0);
   return code >= 0xdc80 && code <= 0xdcff ? "\\x" + (code - 0xdc00).toString(16) : null;
 }
@@ -38,13 +38,13 @@ function shownFor(character, all) {
 }
 
 // The text with names for odd characters, where no box can be.
-function namedText(text) {
+export function namedText(text) {
   return piecesOf(text).map(([piece, shown]) => shown ?? piece).join("");
 }
 
 // The text in pieces: [text, null] as it is, or [character, what is shown for it]. With `isBroken`,
 // an LF is left as it is, since it breaks the line where it is shown.
-function piecesOf(text, all = false, isBroken = false) {
+export function piecesOf(text, all = false, isBroken = false) {
   const pieces = [];
   let plain = "";
   for (const character of text) {

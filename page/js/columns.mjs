@@ -1,5 +1,11 @@
 // The line in which a change is wrong (605, 606), one character a cell, with the column of each.
 
+import { messageOf, session } from "./data.mjs";
+import { hasText, linesAfter } from "./documents.mjs";
+import { factsOf } from "./facts.mjs";
+import { element, source, visibleText } from "./nodes.mjs";
+import { changed, lineEndOf, unitsOf } from "./texts.mjs";
+
 const AROUND = 14;
 const ENCODINGS = ["utf-8", "utf-16", "utf-32"];
 
@@ -53,7 +59,7 @@ function isInside(line, column) {
 }
 
 // The line of the first wrong position of a 605 or 606, or null.
-function columnsPart(violation, row) {
+export function columnsPart(violation, row) {
   const change = factsOf(violation, "change")[0];
   if (!change || change.whole || (violation.rule !== 605 && violation.rule !== 606)) {
     return null;

@@ -1,10 +1,13 @@
 // Nodes of the page. Whatever comes from the log gets into it as text nodes only.
 
+import { indexOfEvent } from "./data.mjs";
+import { codePoint, escapedByte, piecesOf } from "./visible.mjs";
+
 // Private characters, which a page shows as boxes only, for the line ends in what is copied.
 const LINE_END_MARKS = { "\r": "\u{f0000}", "\n": "\u{f0001}" };
 
 // Appends nodes, texts and lists of them, which may be long; null is left out.
-function fill(node, children) {
+export function fill(node, children) {
   for (const child of children.flat()) {
     if (child !== null && child !== undefined) {
       node.append(child);
@@ -13,7 +16,7 @@ function fill(node, children) {
 }
 
 // An element with classes, separated by spaces, and children as for `fill`.
-function element(tag, classes, ...children) {
+export function element(tag, classes, ...children) {
   const made = document.createElement(tag);
   if (classes) {
     made.className = classes;
@@ -22,12 +25,12 @@ function element(tag, classes, ...children) {
   return made;
 }
 
-function titled(node, title) {
+export function titled(node, title) {
   node.title = title;
   return node;
 }
 
-function button(classes, label, action) {
+export function button(classes, label, action) {
   const made = element("button", classes, label);
   made.type = "button";
   made.addEventListener("click", action);
@@ -35,7 +38,7 @@ function button(classes, label, action) {
 }
 
 // A folded part; `make` makes its content when it is opened for the first time.
-function folded(label, make, isOpen = false) {
+export function folded(label, make, isOpen = false) {
   const made = element("details", "folded", element("summary", "", label));
   const open = () => {
     if (made.open && !made.dataset.filled) {
@@ -49,12 +52,12 @@ function folded(label, make, isOpen = false) {
   return made;
 }
 
-function count(number, noun) {
+export function count(number, noun) {
   return `${number.toLocaleString("en")} ${noun}${number === 1 ? "" : "s"}`;
 }
 
 // A link to an event, or to the place where it was left out.
-function eventLink(event, label = `event ${event}`) {
+export function eventLink(event, label = `event ${event}`) {
   const isThere = indexOfEvent.has(event);
   const made = element("a", isThere ? "event-link" : "event-link missing", label);
   made.href = `#event-${event}`;
@@ -62,12 +65,12 @@ function eventLink(event, label = `event ${event}`) {
 }
 
 // Text between backquotes is code.
-function prose(text) {
+export function prose(text) {
   return text.split("`").map((part, at) => (at % 2 ? element("code", "", part) : part));
 }
 
 // Text with each odd character shown as a name in a box.
-function visibleText(text, all = false, isBroken = false) {
+export function visibleText(text, all = false, isBroken = false) {
   return piecesOf(text, all, isBroken).map(([piece, shown]) => {
     if (shown === null) {
       return document.createTextNode(piece);
@@ -81,14 +84,14 @@ function visibleText(text, all = false, isBroken = false) {
 }
 
 // Who says something: lspcheck, or this page.
-function source(who) {
+export function source(who) {
   const said = { lspcheck: "what lspcheck wrote", page: "worked out by this page" }[who];
   return titled(element("span", `source source-${who}`, who), said);
 }
 
 // What is copied of a selection: the characters themselves, not their names in boxes. A box of a
 // line end is also the end of a line on the page.
-function copiedText(selection) {
+export function copiedText(selection) {
   const boxes = [...document.querySelectorAll(".odd")]
     .filter((box) => selection.containsNode(box, true)).slice(0, 60000);
   const shown = boxes.map((box) => box.firstChild.data);
@@ -102,12 +105,12 @@ function copiedText(selection) {
     .replace(/\u{f0000}/gu, "\r").replace(/\u{f0001}/gu, "\n");
 }
 
-function baseName(uri) {
+export function baseName(uri) {
   return uri.slice(uri.lastIndexOf("/") + 1) || uri;
 }
 
 // A long text, of which the first part is shown at once and the rest on demand.
-function longText(text, classes, most = 60000) {
+export function longText(text, classes, most = 60000) {
   const shown = element("pre", classes, visibleText(text.slice(0, most), false, true));
   if (text.length <= most) {
     return shown;
