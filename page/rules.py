@@ -54,21 +54,27 @@ def rows_of(section):
             yield [plain(cell.strip()) for cell in line.strip("|").replace(r"\|", "¦").split("|")]
 
 
+def heading_of(section):
+    """The heading of a section, without the rules that it has in parentheses."""
+    return re.sub(r" \([^)]*\)$", "", plain(section.partition("\n")[0]))
+
+
 def read_section(section, rules):
     """Adds what one section says about the rules that have a row in it."""
-    paragraphs = list(paragraphs_of(section))
+    paragraphs, heading = list(paragraphs_of(section)), heading_of(section)
     for row in rows_of(section):
         for number in numbers_of(row[0]):
             rule = rules.setdefault(number, {})
             if len(row) == 2:
                 rule["look"] = f"{rule.get('look', '')} {row[1]}".lstrip()
                 continue
-            rule.update(zip(("text", "when", "causes", "fault"), row[1:]))
+            rule.update(zip(("text", "when", "causes", "fault"), row[1:]), section=heading)
             rule["more"] = [it for it in paragraphs if re.search(rf"\b{number}\b", it)]
 
 
 def rules():
-    """For each rule and each fault of a log: its text, when it applies, what causes it."""
+    """For each rule and each fault of a log: its text, when it applies, what causes it, and the
+    heading of its section."""
     found = {}
     for section in re.split(r"^## ", page_of_rules(), flags=re.M):
         read_section(section, found)

@@ -1,7 +1,7 @@
 // In a page that has the checker and its log: whether lspcheck says the same here.
 
 import "./main.mjs";
-import { blocks, loaded, session } from "./data.mjs";
+import { allBlocks, loaded, session } from "./data.mjs";
 import { element, visibleText } from "./nodes.mjs";
 
 const AGAIN = {
@@ -19,6 +19,7 @@ function sayAgain(node, { is, text }) {
 
 async function judgeAgain(node) {
   const [module, log, script] = await Promise.all(["module", "log", "worker"].map(loaded));
+  const blocks = await allBlocks();
   const policy = globalThis.trustedTypes?.createPolicy("lspcheck",
     { createScriptURL: (url) => url });
   const url = URL.createObjectURL(new Blob([script], { type: "text/javascript" }));
@@ -30,6 +31,6 @@ async function judgeAgain(node) {
 
 if (document.getElementById("module")) {
   const node = element("p", "where again", "Judging it again here ..");
-  document.querySelector(".verdict .where, .verdict h1").after(node);
+  document.querySelector(".verdict h1").after(node);
   judgeAgain(node).catch((error) => sayAgain(node, { is: "fault", text: String(error) }));
 }

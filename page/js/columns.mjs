@@ -7,6 +7,8 @@ import { element, source, visibleText } from "./nodes.mjs";
 import { changed, lineEndOf, unitsOf } from "./texts.mjs";
 
 const AROUND = 14;
+// A line with more characters has no table.
+const LONGEST_LINE = 200000;
 const ENCODINGS = ["utf-8", "utf-16", "utf-32"];
 
 // The lines before a change of a message, of which the earlier changes were made; undefined if this
@@ -39,17 +41,32 @@ function cellAt(cells, column, encoding) {
   return after < 0 ? cells.length - 1 : after - 1;
 }
 
-function columnsTable(cells, at, encodings) {
-  const first = Math.max(at - AROUND, 0), shown = cells.slice(first, at + AROUND + 1);
-  const mark = (cell) => (cell === cells[at] ? "is-here" : "");
-  const characters = shown.map((cell) =>
-    element("td", mark(cell), visibleText(cell.character, true)));
+// The mark of a position under its character: at its left edge, or inside it.
+function positionMark(cell, column) {
+  const isInside = column > cell.columns[session.encoding];
+  return element("td", `is-here ${isInside ? "is-inside" : ""}`, `▲ ${column + 1}`,
+    isInside ? element("span", "inside-word", " inside") : null);
+}
+
+// A line with the column of each character, counted from 1, and the positions of the message in it.
+function columnsTable(cells, columns, encodings) {
+  // Of two positions at one character, the one inside it is the wrong one.
+  const sorted = [...columns].sort((one, other) => one - other);
+  const places = new Map(sorted.map((it) => [cellAt(cells, it, session.encoding), it]));
+  const first = Math.max(Math.min(...places.keys()) - AROUND, 0);
+  const shown = cells.slice(first, Math.max(...places.keys()) + AROUND + 1);
+  const mark = (at) => (places.has(first + at) ? "is-here" : "");
+  const characters = shown.map((cell, at) =>
+    element("td", mark(at), visibleText(cell.character, true)));
   const rowOf = (encoding) => element("tr", encoding === session.encoding ? "agreed" : "",
     element("th", "", encoding.toUpperCase()),
-    ...shown.map((cell) => element("td", mark(cell), String(cell.columns[encoding]))));
-  const label = first > 0 ? "…" : "";
+    ...shown.map((cell, at) => element("td", mark(at), String(cell.columns[encoding] + 1))));
+  const positions = shown.map((cell, at) => (places.has(first + at) ?
+    positionMark(cell, places.get(first + at)) : element("td", "")));
   return element("table", "columns-table",
-    element("tr", "characters", element("th", "", label), ...characters), ...encodings.map(rowOf));
+    element("tr", "characters", element("th", "", first > 0 ? "…" : ""), ...characters),
+    ...encodings.map(rowOf),
+    element("tr", "positions", element("th", "", "the message"), ...positions));
 }
 
 // Whether a column is inside a character of a line.
@@ -58,26 +75,32 @@ function isInside(line, column) {
   return column < columns.at(-1) && !columns.includes(column);
 }
 
-// The line of the first wrong position of a 605 or 606, or null.
+// The range that an explanation is about; undefined if there is none, or if ranges are not agreed.
+export function rangeOf(violation) {
+  const [change] = factsOf(violation, "change");
+  return factsOf(violation, "sync").length || change?.whole ? undefined : change;
+}
+
+// The line of the first wrong position of a range, or null.
 export function columnsPart(violation, row) {
-  const change = factsOf(violation, "change")[0];
-  if (!change || change.whole || (violation.rule !== 605 && violation.rule !== 606)) {
+  const range = rangeOf(violation), lines = range && linesBeforeChange(row, range.which);
+  if (!lines) {
     return null;
   }
-  const lines = linesBeforeChange(row, change.which);
-  const ends = [[change.line, change.column], [change.end_line, change.end_column]];
-  const places = ends.filter(([line]) => lines?.[line] !== undefined);
+  const ends = [[range.line, range.column], [range.end_line, range.end_column]];
+  const places = ends.filter(([line]) => lines[line]?.length <= LONGEST_LINE);
   if (places.length === 0) {
     return null;
   }
   const isWrong = ([line, column]) => isInside(lines[line], column);
   const [line, column] = places.find(isWrong) ?? places[0];
+  const columns = places.filter((it) => it[0] === line).map((it) => it[1]);
   const cells = columnsOf(lines[line]);
   const fits = factsOf(violation, "fits")[0]?.names ?? [];
   const encodings = ENCODINGS.filter((it) => it === session.encoding || fits.includes(it));
   return element("section", "line-columns",
     element("h3", "", `Line ${line + 1} before this change `, source("page")),
-    columnsTable(cells, cellAt(cells, column, session.encoding), encodings),
-    element("p", "quiet", `The message has line ${line}, counted from 0, and column ${column}, ` +
-      `in ${session.encoding}.`));
+    columnsTable(cells, columns, encodings),
+    element("p", "quiet", `The message has line ${line} and character ${column}, in ` +
+      `${session.encoding}: it counts both from 0, and this page from 1.`));
 }

@@ -1,4 +1,5 @@
-// The data of the page, which is compressed: the index, and blocks of the contents of events.
+// The data of the page, which is compressed: the index, and blocks of the contents of events. A
+// block is inflated when an event in it is looked at.
 
 // The bytes of a block. Browsers decompress in pieces, so this waits.
 export async function loaded(id) {
@@ -14,8 +15,9 @@ export async function loaded(id) {
 export const utf8 = new TextDecoder("utf-8", { fatal: true, ignoreBOM: true });
 
 export const session = JSON.parse(utf8.decode(await loaded("session")));
-export const blocks = await Promise.all(
-  Array.from({ length: session.blocks }, (_, number) => loaded(`contents-${number}`)));
+
+// The blocks that were inflated, and all that are being inflated, by their numbers.
+const blocks = [], inflating = [];
 
 // What `explain` wrote first, and what `show --all` wrote about a damaged place, if there is one.
 export const verdict = session.said[0], damage = session.ending.find((it) => it.is === "bad log");
@@ -65,7 +67,34 @@ for (const note of session.notes) {
   rowOfEvent(note.event)?.notes.push(note);
 }
 
-// The bytes of a content, or null if it was left out of the page.
+// Whether the content of a row can be read: its block was inflated, or the page doesn't have it.
+export function isLoaded(row) {
+  return row.block < 0 || blocks[row.block] !== undefined;
+}
+
+function inflate(number) {
+  inflating[number] ??= loaded(`contents-${number}`).then((bytes) => { blocks[number] = bytes; });
+  return inflating[number];
+}
+
+// Inflates what has the contents of these rows.
+export async function load(needed) {
+  const numbers = new Set(needed.filter((row) => !isLoaded(row)).map((row) => row.block));
+  await Promise.all([...numbers].map(inflate));
+}
+
+// The contents of all rows of a block, which must be loaded, as one text.
+export function textOfBlock(number) {
+  return new TextDecoder("utf-8", { ignoreBOM: true }).decode(blocks[number]);
+}
+
+// All blocks, in order.
+export async function allBlocks() {
+  await Promise.all(Array.from({ length: session.blocks }, (_, number) => inflate(number)));
+  return blocks;
+}
+
+// The bytes of a content, which must be loaded, or null if it was left out of the page.
 export function bytesOf(row) {
   return row.block < 0 ? null : blocks[row.block].subarray(row.start, row.start + row.bytes);
 }

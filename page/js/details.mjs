@@ -1,128 +1,24 @@
 // What is shown when an event is opened: its violation, the texts that differ, its content.
 
-import { columnsPart } from "./columns.mjs";
 import { isProved, lspcheckCommand, shownCommand, textCommand } from "./commands.mjs";
-import { comparison, versionLabel, versionsPart } from "./comparison.mjs";
-import { EDITOR, SIDES, SNAPSHOT, contentOf, rowOfEvent, session } from "./data.mjs";
-import { textsThatDiffer } from "./differing.mjs";
-import { editorNumberAt, hasText, linesAfter, versionRows } from "./documents.mjs";
-import { factsOf } from "./facts.mjs";
-import { causeOf, joinsOf } from "./joins.mjs";
+import { copyButton } from "./copying.mjs";
+import { EDITOR, SIDES, SNAPSHOT, contentOf, messageOf, rowOfEvent } from "./data.mjs";
+import { isDifference } from "./differing.mjs";
+import { editorNumberAt, hasText, linesAfter, rowsOfText, versionRows } from "./documents.mjs";
+import { joinsOf } from "./joins.mjs";
 import { indentedJson } from "./json.mjs";
+import { markedContent, wrongMembers } from "./message.mjs";
 import {
-  count, element, eventLink, fill, folded, longText, prose, source, visibleText,
+  button, count, element, eventLink, fill, folded, longText, shownText, source, visibleText,
+  whenLoaded,
 } from "./nodes.mjs";
-import { summaryOf } from "./summaries.mjs";
-import { ELSEWHERE, inWords, noteInWords, shownEvent, shownText } from "./words.mjs";
+import { notesList } from "./notes.mjs";
+import { versionLabel, versionsPart } from "./versions.mjs";
+import { soPart, violationPart, whatChanged } from "./violation.mjs";
 
-const MOST_NOTES = 60;
+const MOST_OF_JSON = 30000;
 
-// What `explain` wrote, in words.
-export function explanation(facts) {
-  const list = element("dl", "facts");
-  for (const it of facts.filter((fact) => !ELSEWHERE.includes(fact.is))) {
-    const [label, shown] = inWords(it);
-    list.append(element("dt", "", label), element("dd", "", ...shown));
-  }
-  return list;
-}
-
-// The explanation of a violation in one sentence, if lspcheck wrote one.
-export function soPart(violation) {
-  const [so] = factsOf(violation, "so");
-  return so ? element("p", "so", so.sentence, " ", source("lspcheck")) : null;
-}
-
-// Notes in words. Of very many, the rest is shown on demand.
-export function notesList(notes) {
-  const item = (it) => element("li", "", ...noteInWords(it)), rest = notes.slice(MOST_NOTES);
-  return element("ul", "notes", ...notes.slice(0, MOST_NOTES).map(item),
-    rest.length === 0 ? null :
-      folded(count(rest.length, "more note"), () => element("div", "", ...rest.map(item))));
-}
-
-function whatWasWritten(violation) {
-  return folded("The words of lspcheck", () => longText(violation.lines.join("\n"), "raw"));
-}
-
-// What RULES says about a rule.
-export function aboutRule(rule) {
-  const said = session.rules[rule];
-  if (!said) {
-    return null;
-  }
-  const list = element("dl", "facts");
-  const parts = [["Applies when", said.when], ["What causes it", said.causes],
-    ["Whose fault", said.fault]];
-  for (const [label, text] of parts) {
-    if (text && text !== "see below") {
-      list.append(element("dt", "", label), element("dd", "", ...prose(text)));
-    }
-  }
-  const more = [said.look, ...(said.more ?? [])].filter(Boolean);
-  const paragraphs = () => element("div", "rule-more",
-    ...more.map((text) => element("p", "", ...prose(text))));
-  return element("section", "about-rule", element("h3", "", `Rule ${rule}: ${said.text}`), list,
-    more.length ? folded("More about this rule", paragraphs) : null);
-}
-
-// A suspect: the message, and folded what it changed.
-function suspectPart(suspect, isOpen) {
-  const row = rowOfEvent(suspect.event);
-  const head = element("p", "is-suspect", `version ${suspect.version}: `, ...shownEvent(suspect));
-  if (!row || row.method !== "textDocument/didChange") {
-    return head;
-  }
-  head.append(" ", element("code", "summary", visibleText(summaryOf(row))));
-  return element("div", "suspect", head, folded("what it changed", () => whatChanged(row), isOpen));
-}
-
-function suspects(violation) {
-  const found = factsOf(violation, "suspect");
-  return found.length === 0 ? null : element("section", "suspects",
-    element("h3", "", "Suspects ", source("lspcheck")),
-    ...found.map((it) => suspectPart(it, found.length === 1)));
-}
-
-// Of a violation that follows: from which.
-function whyItFollows(violation) {
-  const cause = causeOf(violation);
-  return element("section", "why", element("h3", "", "Why "),
-    element("p", "", "It follows from an earlier violation, which lspcheck explains",
-      cause ? [": ", eventLink(cause.event), `, ${cause.rule} ${cause.text} `, source("page")] : "",
-      ". If that one is mended, this one may be gone."));
-}
-
-function whyItIs(violation) {
-  const command = lspcheckCommand("explain", "--all");
-  const why = violation.facts.length > 0 ?
-    [explanation(violation.facts), whatWasWritten(violation)] :
-    [element("p", "", "This page explains only the first violations. The others are explained by ",
-      shownCommand(command), ".")];
-  return element("section", "why", element("h3", "", "Why ", source("lspcheck")), ...why);
-}
-
-// All that is known about a violation: what differs first.
-export function violationPart(violation) {
-  const row = rowOfEvent(violation.event);
-  return element("div", "violation-part",
-    row ? columnsPart(violation, row) : null,
-    row ? textsThatDiffer(violation, row) : null,
-    violation.follows ? whyItFollows(violation) : whyItIs(violation),
-    aboutRule(violation.rule), suspects(violation));
-}
-
-// The text before and after a didChange, as this page makes them.
-function whatChanged(row) {
-  const before = row.index > 0 ? linesAfter(row.document, row.index - 1) : null;
-  const after = linesAfter(row.document, row.index, true);
-  if (!before || !after) {
-    return element("p", "quiet", "This page does not have what is needed to make the text.");
-  }
-  return comparison(before, after, ["Before ", source("page")], ["After ", source("page")], "page");
-}
-
-function textAfter(row) {
+function textPart(row) {
   const lines = linesAfter(row.document, row.index);
   const command = textCommand(editorNumberAt(row), row.uri);
   const whose = isProved ? "The proved text" : "The text of lspcheck";
@@ -138,6 +34,14 @@ function textAfter(row) {
       "break a rule."), writes, longText(lines.join(""), "document-text"));
 }
 
+// The content of a message, with what breaks a rule in it marked.
+function messagePart(row, content) {
+  const { violation } = row;
+  const isMarked = violation && content.length <= MOST_OF_JSON && !isDifference(violation);
+  return isMarked ? markedContent(content, wrongMembers(violation, messageOf(row)), true) :
+    longText(indentedJson(content), "json", MOST_OF_JSON);
+}
+
 function contentPart(row) {
   const content = contentOf(row);
   if (content === "" && row.kind === "unreadable") {
@@ -147,14 +51,19 @@ function contentPart(row) {
     return element("p", "quiet", "The content was left out of this page. It is written by ",
       shownCommand(lspcheckCommand("event", String(row.event))));
   }
-  const text = row.side === SNAPSHOT ? content : indentedJson(content);
-  return longText(text, row.side === SNAPSHOT ? "document-text" : "json", 30000);
+  return row.side === SNAPSHOT ? longText(content, "document-text", MOST_OF_JSON) :
+    messagePart(row, content);
 }
 
-// The content of a row, next to that of the answer to it or of the request that it answers.
-function contentsPart(row) {
+// The row that is shown next to one: the answer to it, or the request that it answers.
+function joinedRow(row) {
   const isJoined = ["request", "result", "error"].includes(row.kind) && !row.violation;
-  const other = isJoined ? rowOfEvent(row.partner) : undefined;
+  return isJoined ? rowOfEvent(row.partner) : undefined;
+}
+
+// The content of a row, next to that of the row that is joined with it.
+function contentsPart(row) {
+  const other = joinedRow(row);
   if (!other) {
     return contentPart(row);
   }
@@ -176,15 +85,29 @@ function versionLinks(row) {
   return [...link(found[at - 1], "previous"), ...link(found[at + 1], "next")];
 }
 
-// What is below a row when it is open.
-export function detailsOf(row) {
+// What can be done with an event.
+function actionsPart(row, actions) {
+  const copies = row.block < 0 || row.bytes === 0 ? null :
+    copyButton(row.side === SNAPSHOT ? "copy the text" : "copy the message", () => contentOf(row));
+  return element("p", "actions", copies,
+    actions.map(([label, act]) => button("plain", label, () => act(row))));
+}
+
+// The rows whose contents the details of a row show at once.
+export function rowsOfDetails(row) {
+  return [row, joinedRow(row)].filter(Boolean);
+}
+
+// What is below a row when it is open; `actions` are what else can be done with it, each with its
+// name. The contents must be loaded.
+export function detailsOf(row, actions = []) {
   const whose = row.side === SNAPSHOT ? "snapshot" : `${SIDES[row.side]} message`;
   const made = element("div", "details",
     element("p", "about", eventLink(row.event), ` · ${whose} ${row.number}`,
       ` · ${count(row.bytes, "byte")}`,
       row.id === null ? null : [" · id ", ...visibleText(row.id)],
       ...joinsOf(row), ...versionLinks(row)),
-    row.uri ? element("p", "about uri", shownText(row.uri)) : null);
+    row.uri ? element("p", "about uri", shownText(row.uri)) : null, actionsPart(row, actions));
   if (row.violation) {
     fill(made, [soPart(row.violation), violationPart(row.violation)]);
   }
@@ -196,7 +119,8 @@ export function detailsOf(row) {
     made.append(folded("What this message changed", () => whatChanged(row)));
   }
   if (hasText(row)) {
-    made.append(folded("The text after this event", () => textAfter(row)));
+    made.append(folded("The text after this event",
+      () => whenLoaded(rowsOfText(row), () => textPart(row))));
   }
   if (row.document >= 0 && versionRows(row.document).includes(row)) {
     fill(made, [versionsPart(row.document, row)]);

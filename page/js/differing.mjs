@@ -2,10 +2,26 @@
 
 import { comparison } from "./comparison.mjs";
 import { EDITOR, SNAPSHOT, contentOf, messageOf, rowOfEvent, session } from "./data.mjs";
-import { hasText, linesAfter, rowOfVersion } from "./documents.mjs";
+import { hasText, linesAfter, rowOfVersion, rowsOfText } from "./documents.mjs";
 import { factsOf } from "./facts.mjs";
-import { element } from "./nodes.mjs";
+import { element, whenLoaded } from "./nodes.mjs";
 import { linesOf } from "./texts.mjs";
+
+// Whether a violation is that two texts differ.
+export function isDifference(violation) {
+  return factsOf(violation, "by-messages").length > 0;
+}
+
+// Whether the text that differs is one that the editor saved.
+function isOfSave(violation) {
+  return factsOf(violation, "saved").length > 0;
+}
+
+// The row of the snapshot that differs from the text of a message.
+function snapshotOf(violation) {
+  const [first] = factsOf(violation, "snapshot");
+  return first && rowOfEvent(first.event);
+}
 
 // The text of the editor itself at a violation, and the row up to which its messages count.
 function ownText(violation, row) {
@@ -13,15 +29,14 @@ function ownText(violation, row) {
     const set = rowOfVersion(row.document, row.version, row.index);
     return [contentOf(row), set ?? row];
   }
-  if (violation.rule === 608) {
+  if (isOfSave(violation)) {
     return [messageOf(row)?.params?.text, row];
   }
-  const first = factsOf(violation, "snapshot")[0];
-  const snapshot = first && rowOfEvent(first.event);
+  const snapshot = snapshotOf(violation);
   return [snapshot && contentOf(snapshot), row];
 }
 
-// Both texts of a 608 or a 702: [by the messages, the editor's own, who says so], or null.
+// Both texts: [by the messages, the editor's own, who says so], or null.
 export function bothTexts(violation, row) {
   if (violation === session.violations[0] && session.texts) {
     return [linesOf(session.texts.messages), linesOf(session.texts.editor), "lspcheck"];
@@ -34,19 +49,26 @@ export function bothTexts(violation, row) {
   return made && typeof own === "string" ? [made, linesOf(own), "page"] : null;
 }
 
-export function textsThatDiffer(violation, row) {
-  if (violation.rule !== 608 && violation.rule !== 702) {
-    return null;
-  }
+function comparedPart(violation, row) {
   const texts = bothTexts(violation, row);
   if (!texts) {
     return element("p", "quiet", "This page does not have both texts.");
   }
-  const own = violation.rule === 608 ? "Saved by the editor" : "In the editor";
+  const own = isOfSave(violation) ? "Saved by the editor" : "In the editor";
   const said = texts[2] === "lspcheck" ? "Both texts are what lspcheck wrote; " :
     "The text on the left was worked out by this page, not by lspcheck; ";
   const left = texts[2] === "lspcheck" ? session.texts : null;
   return element("section", "texts",
     comparison(texts[0], texts[1], ["By the messages"], [own], texts[2], left),
     element("p", "quiet", said, "what differs is marked by this page."));
+}
+
+// Both texts side by side, or null if the violation is something else.
+export function textsThatDiffer(violation, row) {
+  if (!isDifference(violation)) {
+    return null;
+  }
+  const isGiven = violation === session.violations[0] && session.texts;
+  const needed = [...rowsOfText(row), snapshotOf(violation)].filter(Boolean);
+  return whenLoaded(isGiven ? [] : needed, () => comparedPart(violation, row));
 }

@@ -3,7 +3,7 @@
 import { EDITOR, SNAPSHOT, contentOf, messageOf, rows, session } from "./data.mjs";
 import { changed, linesOf } from "./texts.mjs";
 
-const SETS_TEXT = ["textDocument/didOpen", "textDocument/didChange", "textDocument/didClose"];
+export const SETS_TEXT = ["Open", "Change", "Close"].map((it) => `textDocument/did${it}`);
 // How many changes are made before a text is kept, so that not all are made again for the next one.
 const KEPT_EVERY = 400;
 
@@ -34,9 +34,19 @@ function linesAfterRow(lines, row) {
   if (row.method === "textDocument/didClose") {
     return null;
   }
-  // What breaks one of these rules may have any shape.
-  const params = row.violation?.rule < 300 ? undefined : messageOf(row)?.params;
-  if (row.method === "textDocument/didOpen") {
+  try {
+    return linesSetBy(messageOf(row)?.params, row.method, lines);
+  } catch (fault) {
+    // What breaks a rule may have any shape.
+    if (row.violation) {
+      return undefined;
+    }
+    throw fault;
+  }
+}
+
+function linesSetBy(params, method, lines) {
+  if (method === "textDocument/didOpen") {
     return params ? linesOf(params.textDocument.text) : undefined;
   }
   return (params?.contentChanges ?? [{}]).reduce((before, change) => {
@@ -106,4 +116,10 @@ export function linesOfVersion(row) {
   }
   const content = contentOf(row);
   return content === null ? undefined : linesOf(content);
+}
+
+// The rows whose contents are needed for the text that a row sets or shows, or that it is after.
+export function rowsOfText(row) {
+  return row.document < 0 ? [row] :
+    [row, ...settingRows[row.document].filter((it) => it.index <= row.index)];
 }

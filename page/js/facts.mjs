@@ -1,4 +1,4 @@
-// What explains a violation.
+// What explains a violation, and what it says about the message.
 
 // The objects of one kind that explain a violation.
 export function factsOf(violation, kind) {

@@ -1,39 +1,50 @@
 // Requests and their answers in words: what answers what, how much later, and why none came.
 
 import { SIDES, damage, rowOfEvent, session } from "./data.mjs";
+import { factsOf } from "./facts.mjs";
 import { count, eventLink } from "./nodes.mjs";
 
-const FRAME_RULES = [101, 102, 103, 104, 105, 106];
+// The sections of docs/RULES.md.
+const FRAMING = "Framing", MESSAGES = "Messages", OF_TEXTS = ["Documents", "Snapshots"];
+
+function isOf(violation, ...sections) {
+  return sections.includes(session.rules[violation.rule]?.section);
+}
+
+// Whether a violation is a frame that cannot be read, or the last one, which is cut off.
+function isFrame(violation, isLast) {
+  return isOf(violation, FRAMING) && (violation.event > session.events) === isLast;
+}
 
 function later(from, to) {
   return `${count(to - from, "event")} later`;
 }
 
-// The first violation of a side after an event that has one of these rules.
-function stopOf(side, rules, after) {
-  return session.violations.find((it) =>
-    it.who === SIDES[side] && rules.includes(it.rule) && it.event > after);
+// Whether what breaks a rule of messages may have been meant as an answer.
+function mayBeAnswer(violation) {
+  return isOf(violation, MESSAGES) && rowOfEvent(violation.event)?.method === undefined;
 }
 
 // Why a request that keeps every rule has no answer.
 function whyUnanswered(row) {
-  const other = 1 - row.side, who = SIDES[other];
+  const who = SIDES[1 - row.side];
   if (row.broken) {
     const violation = session.violations.find((it) => it.event === row.broken);
     const rule = violation ? `rule ${violation.rule}` : "a rule";
     return ["its answer, ", eventLink(row.broken), `, breaks ${rule}`];
   }
-  const stop = stopOf(other, FRAME_RULES, 0);
+  const found = session.violations.filter((it) => it.who === who);
+  const stop = found.find((it) => isFrame(it, false));
   if (stop) {
     return [`no answer up to `, eventLink(stop.event),
       `, a frame that cannot be read: nothing that the ${who} sent after it can be`];
   }
-  const unread = stopOf(other, [201, 202, 204, 205, 206, 207, 208], row.event);
+  const unread = found.find((it) => it.event > row.event && mayBeAnswer(it));
   if (unread) {
     return ["not answered, unless ", eventLink(unread.event),
       ", which breaks a rule, was the answer"];
   }
-  if (stopOf(other, [107], 0)) {
+  if (found.some((it) => isFrame(it, true))) {
     return [`no answer before the ${who}’s last frame, which is cut off`];
   }
   if (damage) {
@@ -60,20 +71,18 @@ export function joinsOf(row) {
   return said;
 }
 
-const TEXT_RULES = [601, 602, 603, 604, 605, 606, 607, 608, 702];
-
 // Whether a violation may be what left a document, a side or a request out of step for another: as
 // far as a page can tell from the rules and what the two events name.
 function mayCause(cause, effect) {
   const [before, after] = [rowOfEvent(cause.event), rowOfEvent(effect.event)];
-  if (TEXT_RULES.includes(effect.rule)) {
-    return cause.rule === 504
+  if (isOf(effect, ...OF_TEXTS)) {
+    return factsOf(cause, "registers").length > 0
       || before !== undefined && after !== undefined && before.document === after.document;
   }
-  if (FRAME_RULES.includes(effect.rule)) {
-    return cause.rule === 201 && cause.who === effect.who;
+  if (isFrame(effect, false)) {
+    return factsOf(cause, "breaks").length > 0 && cause.who === effect.who;
   }
-  return !TEXT_RULES.includes(cause.rule);
+  return !isOf(cause, ...OF_TEXTS);
 }
 
 // What a violation that follows follows from: the last earlier one that may have caused it.

@@ -1,17 +1,31 @@
-// The two lanes: only what is seen is in the tree of the page. Each row has the same height; an
-// open one has its details below it, whose height is measured.
+// The two lanes. Of many rows, only those that are seen are in the tree of the page. Each row has
+// the same height; an open one has its details below it, whose height is measured.
 
-import { rowOfEvent, session } from "./data.mjs";
-import { detailsOf } from "./details.mjs";
-import { count, element } from "./nodes.mjs";
+import { isLoaded, load, rowOfEvent, session } from "./data.mjs";
+import { detailsOf, rowsOfDetails } from "./details.mjs";
+import { sayFault } from "./fault.mjs";
+import { markWords } from "./found.mjs";
+import { button, count, element, labelled, whenLoaded } from "./nodes.mjs";
 import { allItems, classesOf, lineOf } from "./rows.mjs";
 
+// How many rows are all in the tree, so that the browser finds and selects what is in them.
+const MOST_DRAWN = 400;
 const MARGIN = 600, MOST_PRINTED = 1500;
+// How far the pointer moves between press and release if that was no click.
+const MOST_OF_CLICK = 5;
+
+function placesFrom(first, last) {
+  return Array.from({ length: Math.max(last - first + 1, 0) }, (_, at) => first + at);
+}
 
 export class Lanes {
-  constructor(container) {
-    this.container = container;
+  // `actions` are what can be done with an open row, each with its name; `selected` is called when
+  // a row was chosen.
+  constructor(container, actions, selected) {
+    Object.assign(this, { container, actions, tellSelected: selected });
     this.shown = allItems;
+    // The words that were searched for, or null if nothing was.
+    this.words = null;
     this.nodes = new Map();
     this.heights = new Map();
     this.selected = null;
@@ -19,10 +33,15 @@ export class Lanes {
     this.measuring = new ResizeObserver((entries) => this.measure(entries));
     this.wide = matchMedia("(min-width: 1100px)");
     this.wide.addEventListener("change", () => this.draw(true));
-    addEventListener("scroll", () => this.draw(), { passive: true });
+    addEventListener("scroll", () => this.isWhole || this.draw(), { passive: true });
     addEventListener("resize", () => this.draw());
     addEventListener("beforeprint", () => this.print());
     addEventListener("afterprint", () => this.endPrint());
+  }
+
+  // Whether all rows are in the tree.
+  get isWhole() {
+    return this.shown.length <= MOST_DRAWN;
   }
 
   get height() {
@@ -63,19 +82,22 @@ export class Lanes {
     }
     const opened = this.opened();
     this.container.style.height = `${this.topOf(this.shown.length, opened)}px`;
-    const top = -this.container.getBoundingClientRect().top;
-    const first = Math.max(this.placeAt(top - MARGIN, opened), 0);
-    const last = Math.min(this.placeAt(top + innerHeight + MARGIN, opened), this.shown.length - 1);
-    const places = [];
-    for (let at = first; at <= last; at += 1) {
-      places.push(at);
+    this.place(this.seenPlaces(opened), opened);
+  }
+
+  // The places of the rows that are seen or near to that, and of the one that has the focus.
+  seenPlaces(opened) {
+    const end = this.shown.length - 1, top = -this.container.getBoundingClientRect().top;
+    if (this.isWhole) {
+      return placesFrom(0, end);
     }
-    const focused = this.placeOfFocus();
+    const first = Math.max(this.placeAt(top - MARGIN, opened), 0);
+    const last = Math.min(this.placeAt(top + innerHeight + MARGIN, opened), end);
+    const places = placesFrom(first, last), focused = this.placeOfFocus();
     if (focused >= 0 && (focused < first || focused > last)) {
       places.push(focused);
-      places.sort((a, b) => a - b);
     }
-    this.place(places, opened);
+    return places.sort((a, b) => a - b);
   }
 
   clear() {
@@ -111,6 +133,29 @@ export class Lanes {
       }
       this.nodes.get(item).style.top = `${this.topOf(at, opened)}px`;
     }
+    this.complete(places.map((at) => this.shown[at]));
+  }
+
+  // Draws the rows again whose messages were not inflated yet.
+  complete(items) {
+    const waiting = items.filter((it) => it.event !== undefined && !isLoaded(it));
+    if (waiting.length) {
+      load(waiting).then(() => waiting.forEach((it) => this.redraw(it))).catch(sayFault);
+    }
+  }
+
+  redraw(item) {
+    const node = this.nodes.get(item);
+    if (!node) {
+      return;
+    }
+    const made = this.nodeOf(item), hasFocus = node.contains(document.activeElement);
+    made.style.top = node.style.top;
+    this.nodes.set(item, made);
+    node.replaceWith(made);
+    if (hasFocus) {
+      made.querySelector(".say").focus({ preventScroll: true });
+    }
   }
 
   nodeOf(item) {
@@ -119,7 +164,8 @@ export class Lanes {
     node.classList.toggle("selected", item === this.selected);
     const say = node.querySelector(".say");
     if (say) {
-      node.firstChild.addEventListener("click", () => this.click(item, say));
+      this.listenTo(node.firstChild, item, say);
+      this.markFound(node, say, item);
     }
     if (this.heights.has(item)) {
       this.unfold(item, node);
@@ -127,18 +173,48 @@ export class Lanes {
     return node;
   }
 
+  // A click opens a row; to drag over it selects what it says.
+  listenTo(line, item, say) {
+    let from = null;
+    line.addEventListener("mousedown", ({ clientX, clientY }) => { from = [clientX, clientY]; });
+    line.addEventListener("click", ({ clientX, clientY, detail }) => {
+      const moved = from && detail ? Math.hypot(clientX - from[0], clientY - from[1]) : 0;
+      if (moved <= MOST_OF_CLICK) {
+        this.click(item, say);
+      }
+    });
+  }
+
+  // Marks what was searched for, and offers to show the row among the others.
+  markFound(node, say, item) {
+    if (!this.words) {
+      return;
+    }
+    markWords(say, this.words);
+    const context = button("plain context", "show in context", (event) => {
+      event.stopPropagation();
+      this.actions.get("show in context")(item);
+    });
+    node.querySelector(".empty").append(labelled(context, `show event ${item.event} in context`));
+  }
+
   click(item, say) {
     this.select(item);
     say.focus({ preventScroll: true });
-    history.replaceState(null, "", `#event-${item.event}`);
+    this.tellSelected(item);
     this.toggle(item);
   }
 
+  // Puts the details below a row, when their contents are there.
   unfold(item, node) {
-    const details = detailsOf(item);
     node.querySelector(".say").setAttribute("aria-expanded", "true");
+    const actions = [...this.actions].filter(([name]) => this.words || name !== "show in context");
+    const details = whenLoaded(rowsOfDetails(item), () => {
+      const made = detailsOf(item, actions);
+      this.measuring.observe(made);
+      return made;
+    });
     node.append(details);
-    this.measuring.observe(details);
   }
 
   toggle(item, isOpen = !this.heights.has(item)) {
@@ -153,7 +229,7 @@ export class Lanes {
       }
     } else {
       this.heights.delete(item);
-      node?.querySelector(".details")?.remove();
+      node?.replaceChildren(node.firstChild);
       node?.querySelector(".say").setAttribute("aria-expanded", "false");
     }
     this.measureNow(item);
@@ -176,9 +252,10 @@ export class Lanes {
     this.draw();
   }
 
-  // Shows these rows and no others, from the first on, or around the selected one.
-  show(shown) {
-    this.shown = shown;
+  // Shows these rows and no others, from the first on, or around the selected one; `words` are
+  // those that were searched for, null if all rows are shown.
+  show(shown, words = null) {
+    Object.assign(this, { shown, words });
     this.draw(true);
     const place = shown.indexOf(this.selected);
     if (place >= 0) {
@@ -223,11 +300,7 @@ export class Lanes {
     this.clear();
     this.isPrinting = true;
     this.container.classList.add("printed");
-    const places = [];
-    for (let at = first; at <= last; at += 1) {
-      places.push(at);
-    }
-    this.place(places, this.opened());
+    this.place(placesFrom(first, last), this.opened());
     const before = this.printNote(0, first - 1);
     const after = this.printNote(last + 1, this.shown.length - 1);
     this.container.prepend(...[before].filter(Boolean));

@@ -1,11 +1,15 @@
 // Puts the parts together, and follows links and keys.
 
-import { EDITOR, SNAPSHOT, rowOfEvent, session } from "./data.mjs";
+import { casePart } from "./case.mjs";
+import { copiedText } from "./copying.mjs";
+import { EDITOR, SNAPSHOT, load, rowOfEvent, rows, session } from "./data.mjs";
+import { Keys } from "./keys.mjs";
 import { Lanes } from "./lanes.mjs";
-import { button, copiedText, element, titled } from "./nodes.mjs";
+import { button, element, labelled, titled } from "./nodes.mjs";
 import {
   badLogPart, documentsPart, firstViolation, notesPart, otherViolations, verdictPart,
 } from "./overview.mjs";
+import { Pane } from "./pane.mjs";
 import { allItems } from "./rows.mjs";
 import { Search } from "./search.mjs";
 import { smallestPart } from "./smallest.mjs";
@@ -13,9 +17,25 @@ import { verdictOf } from "./verdict.mjs";
 import { namedText } from "./visible.mjs";
 import { laneHeads } from "./who.mjs";
 
-const lanesNode = document.getElementById("lanes");
-const lanes = new Lanes(lanesNode);
-const search = new Search(lanes);
+// The rows of which the first sight of the page needs more than the index.
+const FIRST_ROWS = 80, NEAR_ROWS = 4;
+// How long it is said what the browser does not find.
+const HINT_SECONDS = 12;
+
+const dialog = document.getElementById("keys");
+const pane = new Pane(document.getElementById("pane"), (event) => goToEvent(event));
+const lanes = new Lanes(document.getElementById("lanes"), new Map([
+  ["pin", (row) => pane.toggle(row)],
+  ["show in context", showInContext],
+]), () => writeAddress());
+const search = new Search(lanes, () => writeAddress());
+
+// Keeps what is searched for and the selected event in the address.
+function writeAddress() {
+  const event = lanes.selected?.event, { address } = search;
+  const link = `#${event ? `event-${event}` : ""}`;
+  history.replaceState(null, "", address ? `${link}?${address}` : link);
+}
 
 // Goes to an event, or to the place where it was left out.
 function goToEvent(event, isOpen = true) {
@@ -28,59 +48,52 @@ function goToEvent(event, isOpen = true) {
     search.reset();
   }
   lanes.goTo(row, isOpen);
+  writeAddress();
 }
 
-function followLink() {
-  const found = /^#event-(\d+)$/.exec(location.hash);
-  if (found) {
-    goToEvent(Number(found[1]));
+// Shows all rows again, and this one among them.
+function showInContext(row) {
+  search.reset();
+  lanes.goTo(row, false);
+  writeAddress();
+}
+
+async function followLink() {
+  const [, event, address] = /^#(?:event-(\d+))?(?:\?(.*))?$/.exec(location.hash) ?? [];
+  if (address !== undefined) {
+    await search.restore(address);
+  }
+  if (event) {
+    goToEvent(Number(event));
   }
 }
 
 // The next row of a kind from the selected one on, or before it.
-function step(isIt, by) {
+function stepTo(isIt, by) {
   const from = lanes.selected ? lanes.shown.indexOf(lanes.selected) : -1;
   for (let at = from + by; at >= 0 && at < lanes.shown.length; at += by) {
     const item = lanes.shown[at];
     if (item.event !== undefined && isIt(item)) {
-      history.replaceState(null, "", `#event-${item.event}`);
-      return lanes.goTo(item, item.violation !== null);
+      lanes.goTo(item, item.violation !== null);
+      return writeAddress();
     }
   }
 }
 
-const STEPS = {
-  n: (row) => row.violation !== null && !row.violation.follows,
-  v: (row) => row.violation !== null,
-  s: (row) => row.side === SNAPSHOT,
-  e: (row) => row.method === "textDocument/didChange" && row.side === EDITOR,
-  j: () => true,
-};
+const isFirstOfItsKind = (row) => row.violation !== null && !row.violation.follows;
 
-const KEYS = [
-  ["n N", "next and previous violation"],
-  ["v V", "the same, also those that follow from another"],
-  ["s S", "next and previous snapshot"],
-  ["e E", "next and previous edit"],
-  ["j k", "next and previous event"],
-  ["a", "from a request to its answer, and back"],
-  ["Enter", "open or close the selected event"],
-  ["/", "search"],
-  ["Esc", "leave the search, or clear it"],
-  ["d", "dark or light"],
-  ["?", "these keys"],
-];
+const STEPS = {
+  n: (by) => stepTo(isFirstOfItsKind, by),
+  v: (by) => stepTo((row) => row.violation !== null, by),
+  s: (by) => stepTo((row) => row.side === SNAPSHOT, by),
+  e: (by) => stepTo((row) => row.method === "textDocument/didChange" && row.side === EDITOR, by),
+};
 
 function toggleTheme() {
   const root = document.documentElement;
   const isDark = root.dataset.theme ? root.dataset.theme === "dark" :
     matchMedia("(prefers-color-scheme: dark)").matches;
   root.dataset.theme = isDark ? "light" : "dark";
-}
-
-function toggleKeys() {
-  const dialog = document.getElementById("keys");
-  return dialog.open ? dialog.close() : dialog.showModal();
 }
 
 function leaveSearch() {
@@ -93,68 +106,62 @@ function leaveSearch() {
 function toPartner() {
   const partner = lanes.selected?.partner;
   if (partner) {
-    location.hash = `#event-${partner}`;
+    goToEvent(partner);
   }
 }
 
-const ACTIONS = {
+function toggleNoise() {
+  search.quiet.checked = !search.quiet.checked;
+  search.apply();
+}
+
+const ofSelected = (act) => () => lanes.selected?.event !== undefined && act(lanes.selected);
+
+const keys = new Keys(dialog, {
   a: toPartner,
+  c: ofSelected(showInContext),
   d: toggleTheme,
-  "?": toggleKeys,
+  g: () => eventInput.focus(),
+  h: toggleNoise,
+  j: () => stepTo(() => true, 1),
+  k: () => stepTo(() => true, -1),
+  p: ofSelected((row) => pane.toggle(row)),
+  "?": () => keys.toggle(),
   "/": () => search.words.focus(),
   Escape: leaveSearch,
-  Enter: () => lanes.selected && lanes.toggle(lanes.selected),
-  k: () => step(STEPS.j, -1),
-};
-
-function onKey(event) {
-  const isTyping = /INPUT|SELECT/.test(event.target.tagName);
-  if (event.ctrlKey || event.metaKey || event.altKey || (isTyping && event.key !== "Escape")) {
-    return;
-  }
-  if (event.key === "Enter" && /BUTTON|A|SUMMARY/.test(event.target.tagName)) {
-    return;
-  }
-  const action = Object.hasOwn(ACTIONS, event.key) ? ACTIONS[event.key] : null;
-  const forward = Object.hasOwn(STEPS, event.key) ? STEPS[event.key] : null;
-  const lower = event.key.toLowerCase();
-  const back = lower !== event.key && Object.hasOwn(STEPS, lower) ? STEPS[lower] : null;
-  if (!action && !forward && !back) {
-    return;
-  }
-  event.preventDefault();
-  if (action) {
-    action();
-  } else {
-    step(forward ?? back, forward ? 1 : -1);
-  }
-}
+  Enter: ofSelected((row) => lanes.toggle(row)),
+}, STEPS);
 
 // A button that shows a sign, with its name for whoever cannot see it.
-function named(made, name) {
-  made.setAttribute("aria-label", name);
-  return titled(made, name);
+function signButton(sign, name, act) {
+  return titled(labelled(button("plain", sign, act), name), name);
+}
+
+const eventInput = labelled(element("input", "event-number"), "go to an event by its number (g)");
+
+function goToForm() {
+  eventInput.type = "number";
+  eventInput.min = "1";
+  eventInput.max = String(session.events);
+  eventInput.placeholder = "event";
+  const form = element("form", "go-to", eventInput);
+  form.addEventListener("submit", (event) => {
+    event.preventDefault();
+    goToEvent(Number(eventInput.value));
+  });
+  return form;
 }
 
 function bar() {
   const bad = session.violations.some((it) => rowOfEvent(it.event) && !it.follows);
   const steps = bad ? [
-    named(button("plain", "‹", () => step(STEPS.n, -1)), "previous violation (N)"),
+    signButton("‹", "previous violation (N)", () => STEPS.n(-1)),
     element("span", "quiet", "violation"),
-    named(button("plain", "›", () => step(STEPS.n, 1)), "next violation (n)"),
+    signButton("›", "next violation (n)", () => STEPS.n(1)),
   ] : [];
-  return element("div", "bar-parts", search.node, element("span", "steps", ...steps,
-    named(button("plain", "◐", toggleTheme), "dark or light (d)"),
-    named(button("plain", "?", toggleKeys), "keys (?)")));
-}
-
-function keysPart() {
-  const list = element("dl", "facts");
-  for (const [keys, meaning] of KEYS) {
-    list.append(element("dt", "", ...keys.split(" ").map((key) => element("kbd", "", key))),
-      element("dd", "", meaning));
-  }
-  return [element("h2", "", "Keys"), list, button("plain", "close", toggleKeys)];
+  return element("div", "bar-parts", search.node, element("span", "steps", goToForm(), ...steps,
+    signButton("◐", "dark or light (d)", toggleTheme),
+    signButton("?", "keys (?)", () => keys.toggle())));
 }
 
 function cutPart() {
@@ -165,12 +172,14 @@ function cutPart() {
     ...session.left.said.map((line) => element("p", "", line)));
 }
 
-// A link to the event in the address changes nothing there, so it is followed here.
+// Links to events are followed here: one to that in the address changes nothing there, and others
+// keep what is searched for.
 function onClick(event) {
   const link = event.target.closest?.('a[href^="#event-"]');
-  if (link && link.hash === location.hash) {
+  if (link && !event.ctrlKey && !event.metaKey && !event.shiftKey) {
     event.preventDefault();
-    followLink();
+    history.pushState(null, "", link.hash);
+    goToEvent(Number(link.hash.replace("#event-", "")));
   }
 }
 
@@ -182,20 +191,42 @@ function onCopy(event) {
   }
 }
 
+// Of many rows, the browser's own search finds only those that are drawn.
+function hintAtSearch(event) {
+  if (!(event.ctrlKey || event.metaKey) || event.key !== "f" || lanes.isWhole) {
+    return;
+  }
+  const hint = element("p", "hint", "The browser finds only the rows that are drawn: ",
+    element("kbd", "", "/"), " searches all of them.");
+  hint.setAttribute("role", "status");
+  document.getElementById("bar").append(hint);
+  setTimeout(() => hint.remove(), HINT_SECONDS * 1000);
+}
+
+// What is seen first needs the contents of the first rows, and of those that show the cause.
+async function loadFirst() {
+  const [violation] = session.violations, row = violation && rowOfEvent(violation.event);
+  const at = row ? row.index : rows.length;
+  const near = violation ? rows.slice(Math.max(at - NEAR_ROWS, 0), at + NEAR_ROWS) : [];
+  await load([...rows.slice(0, FIRST_ROWS), ...near]);
+}
+
+await loadFirst();
 document.title = `${verdictOf()[1]} – ${namedText(session.name ?? "standard input")}`;
 document.getElementById("overview").append(...[
-  verdictPart(), cutPart(), smallestPart(), badLogPart(), firstViolation(), otherViolations(),
-  notesPart(),
+  verdictPart(), cutPart(), smallestPart(), casePart(), badLogPart(), firstViolation(),
+  otherViolations(), notesPart(),
   documentsPart((number) => search.filter(number)),
 ].filter(Boolean));
 document.getElementById("bar").append(bar());
 document.getElementById("lane-heads").append(...laneHeads());
-document.getElementById("keys").append(...keysPart());
 document.getElementById("plain").hidden = true;
 addEventListener("hashchange", followLink);
-addEventListener("keydown", onKey);
+addEventListener("keydown", hintAtSearch);
 addEventListener("click", onClick);
 addEventListener("copy", onCopy);
 lanes.draw();
-followLink();
+const followed = followLink();
 document.documentElement.dataset.ready = "yes";
+performance.mark("ready");
+await followed;

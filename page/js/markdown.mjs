@@ -1,9 +1,10 @@
 // What one pastes into an issue: the verdict, the words of lspcheck, what differs, and versions.
 
+import { copyButton } from "./copying.mjs";
 import { rowOfEvent, session } from "./data.mjs";
 import { comparedTexts } from "./difference.mjs";
 import { bothTexts } from "./differing.mjs";
-import { button, count } from "./nodes.mjs";
+import { count } from "./nodes.mjs";
 import { smallestLack, smallestLines } from "./smallest.mjs";
 import { verdictOf } from "./verdict.mjs";
 import { namedText } from "./visible.mjs";
@@ -69,23 +70,7 @@ function markdown() {
   ].join("\n");
 }
 
-// Puts a text on the clipboard. Returns whether the browser did.
-function copy(text) {
-  const put = (event) => {
-    event.clipboardData.setData("text/plain", text);
-    event.preventDefault();
-    event.stopImmediatePropagation();
-  };
-  document.addEventListener("copy", put, { capture: true, once: true });
-  const isCopied = document.execCommand("copy");
-  document.removeEventListener("copy", put, { capture: true });
-  return isCopied;
-}
-
-export function copyButton() {
-  const made = button("plain copy", "copy as Markdown", () => {
-    made.textContent = copy(markdown()) ? "copied" : "the browser does not allow it";
-    setTimeout(() => { made.textContent = "copy as Markdown"; }, 2000);
-  });
-  return made;
+// The button that copies it.
+export function copyMarkdown() {
+  return copyButton("copy as Markdown", markdown);
 }

@@ -1,10 +1,8 @@
 // Nodes of the page. Whatever comes from the log gets into it as text nodes only.
 
-import { indexOfEvent } from "./data.mjs";
+import { indexOfEvent, isLoaded, load } from "./data.mjs";
+import { sayFault } from "./fault.mjs";
 import { codePoint, escapedByte, piecesOf } from "./visible.mjs";
-
-// Private characters, which a page shows as boxes only, for the line ends in what is copied.
-const LINE_END_MARKS = { "\r": "\u{f0000}", "\n": "\u{f0001}" };
 
 // Appends nodes, texts and lists of them, which may be long; null is left out.
 export function fill(node, children) {
@@ -30,6 +28,12 @@ export function titled(node, title) {
   return node;
 }
 
+// A node with a name for whoever cannot see it.
+export function labelled(node, name) {
+  node.setAttribute("aria-label", name);
+  return node;
+}
+
 export function button(classes, label, action) {
   const made = element("button", classes, label);
   made.type = "button";
@@ -50,6 +54,16 @@ export function folded(label, make, isOpen = false) {
   made.open = isOpen;
   open();
   return made;
+}
+
+// What `make` returns, once the contents of these rows were inflated: at once, if they are.
+export function whenLoaded(needed, make) {
+  if (needed.every(isLoaded)) {
+    return make();
+  }
+  const place = element("div", "quiet waiting", "…");
+  load(needed).then(() => place.replaceWith(...[make()].filter(Boolean))).catch(sayFault);
+  return place;
 }
 
 export function count(number, noun) {
@@ -83,26 +97,14 @@ export function visibleText(text, all = false, isBroken = false) {
   });
 }
 
+export function shownText(text) {
+  return element("code", "shown-text", visibleText(text, true));
+}
+
 // Who says something: lspcheck, or this page.
 export function source(who) {
   const said = { lspcheck: "what lspcheck wrote", page: "worked out by this page" }[who];
   return titled(element("span", `source source-${who}`, who), said);
-}
-
-// What is copied of a selection: the characters themselves, not their names in boxes. A box of a
-// line end is also the end of a line on the page.
-export function copiedText(selection) {
-  const boxes = [...document.querySelectorAll(".odd")]
-    .filter((box) => selection.containsNode(box, true)).slice(0, 60000);
-  const shown = boxes.map((box) => box.firstChild.data);
-  boxes.forEach((box, at) => { box.firstChild.data = String.fromCodePoint(0xf0000 + at); });
-  const text = selection.toString();
-  boxes.forEach((box, at) => { box.firstChild.data = shown[at]; });
-  const whole = text.replace(/[\u{f0000}-\u{ffffd}]/gu, (mark) =>
-    LINE_END_MARKS[boxes[mark.codePointAt(0) - 0xf0000].copied] ??
-    boxes[mark.codePointAt(0) - 0xf0000].copied);
-  return whole.replace(/(\u{f0000}?\u{f0001}|\u{f0000})\n?/gu, "$1")
-    .replace(/\u{f0000}/gu, "\r").replace(/\u{f0001}/gu, "\n");
 }
 
 export function baseName(uri) {

@@ -1,16 +1,20 @@
 // The head of the page: the verdict, the first violation, the documents.
 
-import { versionsPart } from "./comparison.mjs";
 import { EDITOR, SNAPSHOT, damage, session, verdict } from "./data.mjs";
-import { aboutRule, explanation, notesList, soPart, violationPart } from "./details.mjs";
 import { namingRows } from "./documents.mjs";
-import { copyButton } from "./markdown.mjs";
+import { copyMarkdown } from "./markdown.mjs";
 import {
-  baseName, button, count, element, eventLink, folded, source, titled, visibleText,
+  baseName, button, count, element, eventLink, folded, labelled, shownText, source, titled,
+  visibleText,
 } from "./nodes.mjs";
-import { countsOfViolations, endOfServer, placeOfDamage, verdictOf } from "./verdict.mjs";
+import { notesList } from "./notes.mjs";
+import { aboutRule } from "./rules.mjs";
+import {
+  countsOfViolations, endOfServer, placeOfDamage, sentenceOfVerdict, verdictOf,
+} from "./verdict.mjs";
+import { versionsPart } from "./versions.mjs";
+import { explanation, violationPart } from "./violation.mjs";
 import { whoLine } from "./who.mjs";
-import { shownText } from "./words.mjs";
 
 const MOST_CHIPS = 36, MOST_DOCUMENTS = 4;
 
@@ -19,17 +23,37 @@ function placeOfViolation(violation) {
   return violation.event > session.events ? "the end of the log" : eventLink(violation.event);
 }
 
-function whereItIs() {
-  const violation = session.violations[0];
-  if (!violation || verdict.is !== "no") {
+// Whose message breaks a rule, or whose stream ends too early.
+function whoseItIs({ who, number, event, facts }) {
+  if (who === "snapshot") {
+    return `snapshot ${number}`;
+  }
+  if (event <= session.events) {
+    return `the ${who}’s message ${number}`;
+  }
+  return facts.some((it) => it.is === "begins") ? `the ${who}’s last frame` : `the ${who}’s side`;
+}
+
+// The verdict, and where it is: small, above what it means.
+function ruleLine() {
+  const [kind, word, text] = verdictOf(), [violation] = session.violations;
+  if (kind !== "no" || !violation) {
     return null;
   }
-  if (violation.event > session.events) {
-    return element("p", "where", "At the end of the log.");
+  const isAtEnd = violation.event > session.events;
+  const place = isAtEnd ? "at the end of the log" : [eventLink(violation.event), " of the log"];
+  const said = sentenceOfVerdict() === undefined ? word : `${word} ${text}`;
+  return element("p", "rule where", element("span", "word", said),
+    ` · ${whoseItIs(violation)}, `, place);
+}
+
+function headingOfVerdict() {
+  const [kind, word, text] = verdictOf(), sentence = sentenceOfVerdict();
+  if (sentence !== undefined) {
+    return element("h1", "so", sentence, " ", source("lspcheck"));
   }
-  const whose = violation.who === "snapshot" ? `Snapshot ${violation.number}` :
-    `The ${violation.who}’s message ${violation.number}`;
-  return element("p", "where", `${whose}, `, eventLink(violation.event), " of the log.");
+  return kind === "no" ? element("h1", "", text) :
+    element("h1", "", element("span", "word", word), " ", text);
 }
 
 // Of a log that breaks a rule and is damaged, too: both are said first.
@@ -52,20 +76,22 @@ function factsOfLog() {
   return element("p", "quiet", facts.join(" · "));
 }
 
+// What the page says about itself.
+function aboutPage() {
+  return element("p", "quiet", "The verdict is that of ", shownText(session.version),
+    ". What this page worked out itself is marked ", source("page"),
+    ". Lines and columns are counted from 1, as in editors, columns ",
+    `in ${session.encoding}; messages, and the words of lspcheck, count both from 0. `,
+    copyMarkdown());
+}
+
 export function verdictPart() {
-  const [kind, word, text] = verdictOf();
+  const [kind] = verdictOf();
   return element("header", `verdict verdict-${kind}`,
     element("p", "name", visibleText(session.name ?? "standard input", true)),
-    element("h1", "", element("span", "word", word), " ", text),
-    session.violations.length ? soPart(session.violations[0]) : null,
-    whereItIs(), damagePart(), whoLine(),
+    ruleLine(), headingOfVerdict(), damagePart(), whoLine(),
     session.exit.length === 0 ? null : element("p", "where", visibleText(endOfServer())),
-    factsOfLog(),
-    element("p", "quiet", "The verdict is that of ", shownText(session.version),
-      ". What this page worked out itself is marked ", source("page"),
-      ". Lines are counted from 1, as in editors; columns from 0, ",
-      `in ${session.encoding}, as in the messages. `,
-      copyButton()));
+    factsOfLog(), aboutPage());
 }
 
 export function notesPart() {
@@ -81,13 +107,13 @@ export function badLogPart() {
   return element("section", "card",
     element("h2", "", `${verdict.code} ${verdict.text} `, source("lspcheck")),
     element("p", "", "No event before this record breaks a rule. What follows is not shown."),
-    explanation(facts), aboutRule(verdict.code));
+    explanation(facts), aboutRule(verdict.code, facts));
 }
 
 export function firstViolation() {
   const violation = session.violations[0];
   return !violation || verdict.is !== "no" ? null :
-    element("section", "card first", violationPart(violation));
+    element("section", "card first", violationPart(violation, true));
 }
 
 export function otherViolations() {
@@ -104,19 +130,28 @@ export function otherViolations() {
     more > 0 ? element("p", "quiet", `and ${count(more, "more violation")}`) : null);
 }
 
+function wordOfChip({ violation }) {
+  if (!violation) {
+    return "";
+  }
+  return violation.follows ? `follows: rule ${violation.rule}` : `breaks rule ${violation.rule}`;
+}
+
 // A chip for each event of a document that sets its version or shows its text.
 function chip(row) {
   const short = { "textDocument/didOpen": "open ", "textDocument/didClose": "close",
     "textDocument/didSave": "save" };
   const version = row.version === null ? "" : String(row.version);
   const label = row.side === SNAPSHOT ? `▣ ${version}` : `${short[row.method] ?? ""}${version}`;
-  const made = eventLink(row.event, label);
+  const what = row.side === SNAPSHOT ? "snapshot" : baseName(row.method);
+  const name = [what, version && `version ${version}`, `event ${row.event}`, wordOfChip(row)]
+    .filter(Boolean).join(", ");
+  const made = titled(labelled(eventLink(row.event, label), name), name);
   made.className = "chip";
   made.classList.toggle("chip-snapshot", row.side === SNAPSHOT);
   made.classList.toggle("chip-bad", row.violation !== null && !row.violation.follows);
   made.classList.toggle("chip-follows", row.violation?.follows === true);
-  const what = row.side === SNAPSHOT ? "snapshot of version" : row.method;
-  return titled(made, `event ${row.event}: ${what} ${version}`);
+  return made;
 }
 
 function isOfText(row) {
@@ -153,7 +188,7 @@ function documentPart(number, filter) {
   const uri = session.documents[number];
   const only = button("plain", "show only this document", () => filter(number));
   return element("div", "document",
-    element("p", "", element("strong", "", visibleText(baseName(uri))), " ", only),
+    element("h3", "", visibleText(baseName(uri), true), " ", only),
     element("p", "about uri", shownText(uri)),
     element("div", "chips", ...chosenChips(namingRows[number].filter(isOfText))),
     versionsPart(number));

@@ -1,11 +1,13 @@
 // The rows of the two lanes: what is in each, and how it is drawn.
 
 import {
-  EDITOR, SERVER, SIDES, SNAPSHOT, damage, indexOfEvent, rowOfEvent, rows, session,
+  EDITOR, SERVER, SIDES, SNAPSHOT, damage, indexOfEvent, isLoaded, rowOfEvent, rows, session,
 } from "./data.mjs";
 import { gaps } from "./documents.mjs";
 import { factsOf } from "./facts.mjs";
-import { baseName, button, count, element, visibleText } from "./nodes.mjs";
+import { baseName, button, count, element, labelled, visibleText } from "./nodes.mjs";
+import { wordsOfNote } from "./notes.mjs";
+import { statusOf } from "./snapshots.mjs";
 import { summaryOf } from "./summaries.mjs";
 import { endOfServer, placeOfDamage } from "./verdict.mjs";
 import { namedText } from "./visible.mjs";
@@ -137,30 +139,30 @@ for (const violation of session.violations) {
   factsOf(violation, "equal").forEach((it) => equalEvents.add(it.event));
 }
 
+const STATUS_TAGS = { equal: "equal", differs: "bad", "not compared": "result" };
+
+// What became of a snapshot that breaks no rule itself.
+function statusOfSnapshot(row) {
+  return row.side === SNAPSHOT && !equalEvents.has(row.event) ? statusOf(row) : null;
+}
+
+// The tags of a row, each as its kind and its text.
 function tagsOf(row) {
-  const tags = [];
-  if (row.violation?.follows) {
-    tags.push(element("span", "tag tag-follows", `follows: ${row.violation.rule}`));
-  } else if (row.violation) {
-    tags.push(element("span", "tag tag-bad", `${row.violation.rule} ${row.violation.text}`));
-  }
-  if (suspectEvents.has(row.event) && !row.violation) {
-    tags.push(element("span", "tag tag-suspect", "suspect"));
-  }
-  if (row.cancel) {
-    tags.push(element("span", "tag tag-result", "cancelled"));
-  }
-  if (equalEvents.has(row.event)) {
-    tags.push(element("span", "tag tag-equal", "last equal"));
-  }
-  if (row.notes.length) {
-    tags.push(element("span", "tag tag-note", "note"));
-  }
-  return tags;
+  const { violation } = row, status = statusOfSnapshot(row);
+  const bad = violation?.follows ? ["follows", `follows: ${violation.rule}`] :
+    ["bad", `${violation?.rule} ${violation?.text}`];
+  return [
+    violation && bad,
+    suspectEvents.has(row.event) && !violation && ["suspect", "suspect"],
+    row.cancel > 0 && ["result", "cancelled"],
+    equalEvents.has(row.event) && ["equal", "last equal"],
+    status && [STATUS_TAGS[status], status],
+    row.notes.length > 0 && ["note", "note"],
+  ].filter(Boolean);
 }
 
 // The name of a row, for whoever cannot see it.
-function labelOf(row) {
+export function labelOf(row) {
   const what = row.side === SNAPSHOT ? "snapshot" : `${SIDES[row.side]}, ${row.kind}`;
   const violation = row.violation ? `breaks rule ${row.violation.rule}, ${row.violation.text}` : "";
   return [`event ${row.event}`, what, row.method, row.id === null ? "" : `id ${row.id}`,
@@ -169,25 +171,45 @@ function labelOf(row) {
     row.violation?.follows ? "follows" : "",
     suspectEvents.has(row.event) && !row.violation ? "suspect" : "",
     row.cancel ? "cancelled" : "", equalEvents.has(row.event) ? "last equal" : "",
-    row.notes.length ? "note" : "", summaryOf(row),
+    row.notes.length ? "note" : "", statusOfSnapshot(row), summaryIfLoaded(row),
   ].filter(Boolean).map(namedText).join(", ");
 }
 
-function messageCell(row) {
+// What a row's message says, unless its content is still to be inflated.
+function summaryIfLoaded(row) {
+  return isLoaded(row) ? summaryOf(row) : "";
+}
+
+// What a row says: its names, and what it is about.
+export function rowParts(row) {
   const version = row.version === null ? null : element("span", "version", `v${row.version}`);
   const file = row.uri ? element("span", "file", visibleText(baseName(row.uri))) : null;
   const id = row.id === null ? null : element("span", "id", "#", visibleText(row.id));
-  const made = button("say", "", null);
   // Spaces between the parts: what is selected and copied has them, too.
   const apart = (parts) => parts.filter(Boolean).flatMap((it) => [it, " "]);
-  made.append(
+  return [
     element("span", "what",
       ...apart([element("span", "names", ...nameOf(row)), id, file, version])),
-    element("span", "says", ...apart(tagsOf(row)),
-      element("span", "summary", visibleText(row.excerpt ?? summaryOf(row)))));
+    element("span", "says",
+      ...apart(tagsOf(row).map(([kind, text]) => element("span", `tag tag-${kind}`, text))),
+      element("span", "summary", visibleText(row.excerpt ?? summaryIfLoaded(row)))),
+  ];
+}
+
+// All that a row and its notes show, but for what its message says.
+export function shownInRow(row) {
+  return [
+    row.event, row.kind === "unreadable" ? "cannot be read" : row.kind, row.method, row.uri,
+    row.id === null ? "" : `#${row.id}`, row.version === null ? "" : `v${row.version}`,
+    ...tagsOf(row).map(([, text]) => text), ...row.notes.map(wordsOfNote),
+  ].join(" ");
+}
+
+function messageCell(row) {
+  const made = button("say", "", null);
+  made.append(...rowParts(row));
   made.setAttribute("aria-expanded", "false");
-  made.setAttribute("aria-label", labelOf(row));
-  return made;
+  return labelled(made, labelOf(row));
 }
 
 function badTag(text) {

@@ -60,10 +60,10 @@ function commaBetween(...parts) {
   return parts.filter(Boolean).join(", ");
 }
 
-// A position, its line counted from 1, as in editors.
+// A position, counted from 1, as in editors.
 function positionInBrief(position) {
-  const line = memberAt(position, "line"), column = memberAt(position, "character");
-  return `${Number.isInteger(line) ? line + 1 : inBrief(line)}:${inBrief(column)}`;
+  const fromOne = (it) => (Number.isInteger(it) ? it + 1 : inBrief(it));
+  return ["line", "character"].map((name) => fromOne(memberAt(position, name))).join(":");
 }
 
 // A range, as one position if it is empty.

@@ -1,13 +1,37 @@
 // The verdict, and what else is known about the whole log, in words.
 
-import { damage, session, verdict } from "./data.mjs";
+import { damage, rows, session, verdict } from "./data.mjs";
+import { factsOf } from "./facts.mjs";
 
+// The kind of the verdict, its word, and its text.
 export function verdictOf() {
+  const [editor, server] = session.sides;
+  if (verdict.is === "yes" && editor + server === 0) {
+    return ["empty", "Yes", "The log has no message"];
+  }
   if (verdict.is === "yes") {
     return ["yes", "Yes", "The session keeps every rule"];
   }
   const isNo = verdict.is === "no";
   return [isNo ? "no" : "bad", isNo ? `No · rule ${verdict.rule}` : "Bad log", verdict.text];
+}
+
+// What the lines of the first violation mean together, if lspcheck wrote a sentence.
+export function sentenceOfVerdict() {
+  const [violation] = session.violations;
+  return verdict.is === "no" && violation ? factsOf(violation, "so")[0]?.sentence : undefined;
+}
+
+// What both sides agreed on: the names of an encoding and of a kind of synchronisation. Without a
+// handshake it is nothing. Of a log that was cut, the page may lack the answer to `initialize`.
+export function agreement() {
+  const said = session.said.find((it) => it.is === "encoding");
+  if (verdict.is === "yes" && said) {
+    return said.name === null ? null : { encoding: said.name, sync: said.sync };
+  }
+  const isAnswer = (it) => it.kind === "result" && it.method === "initialize" && !it.violation;
+  return session.left || rows.some(isAnswer) ?
+    { encoding: session.encoding, sync: session.sync } : null;
 }
 
 export function placeOfDamage() {

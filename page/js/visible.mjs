@@ -11,6 +11,9 @@ const NAMES = {
 
 export const ODD = /[\p{Cc}\p{Cf}\p{Cs}\p{Co}\p{Zl}\p{Zp}]|(?! )\p{Zs}/u;
 export const COMBINING = /\p{M}/u;
+// More marks than this on one character are in a box, since they would be drawn over what is above
+// them. Three are in use, as in Vietnamese and Hebrew.
+const MOST_MARKS = 3;
 
 export function codePoint(character) {
   return "U+" + character.codePointAt(0).toString(16).toUpperCase().padStart(4, "0");
@@ -42,25 +45,39 @@ export function namedText(text) {
   return piecesOf(text).map(([piece, shown]) => shown ?? piece).join("");
 }
 
-// The text in pieces: [text, null] as it is, or [character, what is shown for it]. With `isBroken`,
-// an LF is left as it is, since it breaks the line where it is shown.
+// The marks of a text that are too many on one character: for each place where such begin, the end.
+function crowds(text) {
+  const found = new Map();
+  for (const { index, 0: marks } of text.matchAll(/\p{M}+/gu)) {
+    const many = [...marks].slice(MOST_MARKS);
+    if (many.length) {
+      found.set(index + marks.length - many.join("").length, index + marks.length);
+    }
+  }
+  return found;
+}
+
+// The text in pieces: [text, null] as it is, or [characters, what is shown for them]. With
+// `isBroken`, an LF is left as it is, since it breaks the line where it is shown.
 export function piecesOf(text, all = false, isBroken = false) {
-  const pieces = [];
-  let plain = "";
-  for (const character of text) {
-    const shown = isBroken && character === "\n" ? null : shownFor(character, all);
-    if (shown === null) {
+  const pieces = [], crowded = crowds(text);
+  let plain = "", at = 0;
+  const add = (piece, shown) => {
+    pieces.push(...(plain ? [[plain, null]] : []), [piece, shown]);
+    plain = "";
+  };
+  while (at < text.length) {
+    const character = String.fromCodePoint(text.codePointAt(at)), end = crowded.get(at);
+    const isKept = isBroken && character === "\n";
+    const shown = isKept ? null : shownFor(character, all);
+    if (end) {
+      add(text.slice(at, end), `◌×${[...text.slice(at, end)].length}`);
+    } else if (shown === null) {
       plain += character;
-      continue;
+    } else {
+      add(character, shown);
     }
-    if (plain) {
-      pieces.push([plain, null]);
-      plain = "";
-    }
-    pieces.push([character, shown]);
+    at = end ?? at + character.length;
   }
-  if (plain) {
-    pieces.push([plain, null]);
-  }
-  return pieces;
+  return plain ? [...pieces, [plain, null]] : pieces;
 }

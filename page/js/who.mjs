@@ -2,6 +2,7 @@
 
 import { session } from "./data.mjs";
 import { element, titled } from "./nodes.mjs";
+import { agreement } from "./verdict.mjs";
 import { namedText } from "./visible.mjs";
 
 const VERSION_NUMBER = /\d+(?:\.\d+)+/;
@@ -24,8 +25,9 @@ export const editorName = shortName(session.client), serverName = shortName(sess
 export function whoLine() {
   const names = `${editorName ?? "an editor without a name"} to ` +
     `${serverName ?? "a server without a name"}`;
-  return titled(element("p", "who", element("strong", "", names),
-    ` · columns in ${session.encoding} · synchronisation: ${session.sync}`),
+  const agreed = agreement();
+  return titled(element("p", "who", element("strong", "", names), agreed ?
+    ` · columns in ${agreed.encoding} · synchronisation: ${agreed.sync}` : " · no handshake"),
   [session.client, session.server].map(longName).filter(Boolean).join("; "));
 }
 

@@ -1,10 +1,6 @@
 // The objects of `lspcheck explain` in words. One that is not known here is shown as it is.
 
-import { baseName, element, eventLink, visibleText } from "./nodes.mjs";
-
-export function shownText(text) {
-  return element("code", "shown-text", visibleText(text, true));
-}
+import { baseName, element, eventLink, shownText, visibleText } from "./nodes.mjs";
 
 function shownJson(value) {
   return shownText(JSON.stringify(value));
@@ -16,10 +12,11 @@ export function shownEvent({ event, side, number }) {
   return [eventLink(event), ` (${whose})`];
 }
 
-// A position. The protocol counts lines from 0; on the page they are counted from 1, as in editors.
+// A position. The protocol counts both from 0; on the page they are counted from 1, as in editors.
 function shownPlace(line, column) {
-  return `line ${line + 1}, column ${column}`;
+  return `line ${line + 1}, column ${column + 1}`;
 }
+
 
 function unitsLong(number) {
   return `${number} unit${number === 1 ? "" : "s"} long`;
@@ -102,8 +99,8 @@ export const FACTS = {
   begins: ["It begins", (it) => [shownText(it.text)]],
   "header-ends": ["Its first line", (it) => [`ends with ${it.name.toUpperCase()} alone`]],
   breaks: ["JSON until", (it) => [`byte ${it.count} of the content`]],
-  before: ["Before it", (it) => [shownText(it.text)]],
-  after: ["After it", (it) => [shownText(it.text)]],
+  before: ["Before it", (it) => [it.text === "" ? "nothing" : shownText(it.text)]],
+  after: ["After it", (it) => [it.text === "" ? "nothing" : shownText(it.text)]],
   whole: ["Whole", (it) => [`with the bytes that follow it, the JSON has ${it.count} bytes`]],
   counts: ["The header", (it) => [`fits that length in ${inUnitsOf(it.names)}`]],
   member: ["Member", (it) => [

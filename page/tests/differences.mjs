@@ -61,10 +61,32 @@ function checkAll() {
     [null, "CR", "LF", "NBSP", null, "◌\u0301", "RLO", "\\xff"]);
   same(page.indentedJson('{"a":[1.0,{}],"a":"\\u00e9,\\"{"}'), '{\n  "a": [\n    1.0,\n    {}\n  ],\n  "a": "\\u00e9,\\"{"\n}');
   same(page.indentedJson("{not json"), "{not json");
+  // Marks on one character: three as they are, and what is more in one box.
+  const crowd = "e\u0301\u0302\u0303\u0304\u0305x";
+  same(page.piecesOf(crowd), [["e\u0301\u0302\u0303", null], ["\u0304\u0305", "◌×2"], ["x", null]]);
+  same(page.piecesOf("\u0301".repeat(100000)).map((it) => it[1]), [null, "◌×99997"]);
+  checkMarks();
   // Neither quadratic time nor the stack: one long line, and many lines that all differ.
   same(page.linesOf("z".repeat(600000)).length, 1);
   same(page.comparedTexts(page.linesOf("a\n".repeat(200000)), page.linesOf("a\r\n".repeat(200000))).length, 200001);
   write("good");
+}
+
+// The members of a message that are at a pointer, and nothing else of it.
+function checkMarks() {
+  const message = '{"a/b":[1.0,{"x":{}}],"a":{"b":2},"a":null}';
+  const marked = (...pointers) => page.markedJson(message, pointers)
+    .filter(([, isMarked]) => isMarked).map(([text]) => text.replace(/\s+/g, ""));
+  assert.deepStrictEqual(marked(), []);
+  assert.deepStrictEqual(marked("/a~1b/0"), ["1.0"]);
+  assert.deepStrictEqual(marked("/a~1b/1/x"), ['"x":{}']);
+  assert.deepStrictEqual(marked("/a/b"), ['"b":2']);
+  assert.deepStrictEqual(marked("/a"), ['"a":{"b":2}', '"a":null']);
+  assert.deepStrictEqual(marked("/b", "/a~1b/2", "/a/b/c"), []);
+  assert.strictEqual(marked("").join(""), message);
+  // Neither deep messages nor long names make it slow.
+  const deep = `{"${"n".repeat(100000)}":${"[".repeat(5000)}1${",2".repeat(100000)}${"]".repeat(5000)}}`;
+  assert.deepStrictEqual(page.markedJson(deep, ["/n/0"]).length, 1);
 }
 
 checkAll();

@@ -383,7 +383,7 @@ def gives_away_little(page, program, log):
     lines = [it.split("\n") for it in texts]
     wanted = [str(at + 1) for at, (a, b) in enumerate(zip(*lines)) if a != b for _ in range(2)]
     assert shown == wanted, (shown, wanted)
-    assert "left out of this page" in page.text(".first") and "No · rule" in page.text("h1")
+    assert "left out of this page" in page.text(".first") and "No · rule" in page.text(".rule")
 
 
 def tests_of(window, program, place):

@@ -2,10 +2,11 @@
 
 import { given, load, write } from "./scripts.mjs";
 
-const { rows, session } = await load("data.mjs", given());
+const { load: inflate, rows, session } = await load("data.mjs", given());
 const { linesAfter, settingRows } = await load("documents.mjs");
 
 const found = new Map();
+await inflate(rows);
 
 function note(row, uri, number) {
   const lines = linesAfter(number, row.index), key = `${row.event} ${uri}`;

@@ -5,6 +5,7 @@ import shutil
 import subprocess
 from pathlib import Path
 
+import lint
 import logs
 from data import EXAMPLES, output, page_of, smallest_of, written
 from processes import SECONDS
@@ -113,4 +114,5 @@ TESTS = [
     texts_after_a_gap,
     smallest_sessions_mean_the_same,
     differences_lead_from_one_text_to_the_other,
+    *lint.TESTS,
 ]
