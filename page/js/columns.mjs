@@ -1,4 +1,4 @@
-// The line in which a change is wrong (605, 606), one character a cell, with the column of each.
+// The line in which a range is wrong, one character a cell, with the column of each.
 
 import { messageOf, session } from "./data.mjs";
 import { hasText, linesAfter } from "./documents.mjs";

@@ -24,7 +24,7 @@ function nearRow(row, event) {
 export function nearRows(event) {
   const at = indexOfEvent.get(event) ?? rows.length;
   const found = rows.slice(Math.max(at - AROUND_EVENT, 0), at + AROUND_EVENT + 1);
-  return whenLoaded(found, () => element("section", "near",
+  return found.length === 0 ? null : whenLoaded(found, () => element("section", "near",
     element("h3", "", "Before and after it"),
     element("ol", "near-rows", found.map((row) => nearRow(row, event)))));
 }

@@ -1,7 +1,8 @@
 // The smallest session that shows the violation: the editor's messages, to run them again.
 
 import { lspcheckCommand, shownCommand } from "./commands.mjs";
-import { session, verdict } from "./data.mjs";
+import { session } from "./data.mjs";
+import { factsOf } from "./facts.mjs";
 import { count, element, folded } from "./nodes.mjs";
 import { ODD, namedText } from "./visible.mjs";
 
@@ -21,7 +22,8 @@ export function smallestLines() {
 
 // What they lack of the session that shows the violation.
 export function smallestLack() {
-  return verdict.rule === 702 ? ", without its snapshot" : "";
+  const [violation] = session.violations;
+  return factsOf(violation, "in-editor").length ? ", without its snapshot" : "";
 }
 
 export function smallestPart() {

@@ -4,7 +4,7 @@ import json
 import re
 
 import logs
-from data import lines_of, written
+from data import EXAMPLES, lines_of, written
 from expected import READ
 from logs import frame, handshake, notification, opened, request, result, snapshot
 from window import THEMES, WIDTHS
@@ -63,6 +63,10 @@ def marks_the_wrong_member(page, program, log, event, wanted):
     last = len(page.all("#lanes .row .say"))
     assert shown == list(range(max(event - 2, 1), min(event + 2, last) + 1)), (shown, last)
     assert page.texts(".first .near-row.is-here .number") == [str(event)]
+    said = page.run(READ + """const of = (rows, part) => [...document.querySelectorAll(rows)].map((it) =>
+          [it.querySelector('.number').innerText, plain(it.querySelector(part))]);
+        return [of('.first .near-row', '.near-what'), of('#lanes .row:not(:last-child)', '.say')]""")
+    assert said[0] and all(it in said[1] for it in said[0]), said
     page.all(".first .near-row")[0].click()
     page.wait("return document.querySelector('.selected .number')?.innerText === arguments[0]", str(shown[0]))
 
@@ -99,6 +103,17 @@ def shows_suspects_under_the_texts(page, program, log):
     events = [re.search(r" event (\d+) ", it)[1] for it in suspects]
     notes = [it for it in lines_of(program, "explain", "--all", "--notes", log) if it.startswith("note ")]
     assert noted == [sum(f" event {event} " in it for it in notes) for event in events], (noted, notes)
+
+
+def says_nothing_twice(page, program, log):
+    """What is above an explanation is left out of it: the texts, or the characters and the encoding. Whose
+    fault it is is said once."""
+    page.open()
+    kinds = {it.split()[0] for it in lines_of(program, "explain", log)}
+    labels = page.texts(".first .facts dt")
+    above = {"Columns", "Inside"} if page.all(".first .columns-table") else {"By the messages", "In the editor", "Saved"}
+    assert kinds & {"by-messages", "inside"} and not above & set(labels), labels
+    assert labels.count("Usually") + labels.count("Whose fault") == 1, labels
 
 
 def says_what_applies(page, program, log):
@@ -171,6 +186,8 @@ def tests_of(window, program, place):
     yield "shows_suspects_under_the_texts", lambda: shows_suspects_under_the_texts(window(noted), program, noted)
     differs = written(place, "b differs.log", logs.differs())
     page_of_differs = window(differs)
+    for log, page in (*((it, window(it)) for it in (EXAMPLES[0], EXAMPLES[-1])), (differs, page_of_differs)):
+        yield f"says_nothing_twice {log.name}", lambda page=page, log=log: says_nothing_twice(page, program, log)
     yield "says_what_applies", lambda: says_what_applies(page_of_differs, program, differs)
     for test in (marks_differences_strongly, has_neutral_pills):
         yield test.__name__, lambda test=test: test(page_of_differs)
