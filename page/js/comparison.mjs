@@ -49,6 +49,8 @@ function skippedRow(lines, first, { skipped, lineA, lineB }) {
         { skipped: skipped - shown, lineA: lineA + shown, lineB: lineB + shown }));
     }
     made.replaceWith(...added);
+    added[0].tabIndex = -1;
+    added[0].focus({ preventScroll: true });
   });
   return titled(made, "show them");
 }

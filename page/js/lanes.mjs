@@ -288,7 +288,12 @@ export class Lanes {
       this.measureNow(item);
       this.draw();
     }
-    this.nodes.get(item)?.querySelector(".say, .wide")?.focus({ preventScroll: true });
+    this.focus();
+  }
+
+  // Gives the focus to the selected row.
+  focus() {
+    this.nodes.get(this.selected)?.querySelector(".say, .wide")?.focus({ preventScroll: true });
   }
 
   // All rows, one below the other, or those around the selected one if there are many.

@@ -23,7 +23,8 @@ const FIRST_ROWS = 80, NEAR_ROWS = 4;
 const HINT_SECONDS = 12;
 
 const dialog = document.getElementById("keys");
-const pane = new Pane(document.getElementById("pane"), (event) => goToEvent(event));
+const pane = new Pane(document.getElementById("pane"), (event) => goToEvent(event),
+  () => lanes.focus());
 const lanes = new Lanes(document.getElementById("lanes"), new Map([
   ["pin", (row) => pane.toggle(row)],
   ["show in context", showInContext],

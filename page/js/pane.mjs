@@ -4,8 +4,9 @@ import { detailsOf, rowsOfDetails } from "./details.mjs";
 import { button, element, whenLoaded } from "./nodes.mjs";
 
 export class Pane {
-  constructor(node, goTo) {
-    Object.assign(this, { node, goTo, row: null });
+  // `goTo` goes to an event; `leave` takes the focus when the pane is closed.
+  constructor(node, goTo, leave) {
+    Object.assign(this, { node, goTo, leave, row: null });
   }
 
   // Shows the details of a row, or nothing if it shows them already.
@@ -21,7 +22,10 @@ export class Pane {
     const head = element("div", "pane-head",
       element("h2", "", `Pinned: event ${row.event}`),
       button("plain", "go there", () => this.goTo(row.event)),
-      button("plain", "unpin", () => this.toggle(null)));
+      button("plain", "unpin", () => {
+        this.toggle(null);
+        this.leave();
+      }));
     return [head, whenLoaded(rowsOfDetails(row), () => detailsOf(row))];
   }
 }

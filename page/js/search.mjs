@@ -125,7 +125,10 @@ export class Search {
     this.side = choiceOf("which events", "both sides", [...CHOICES.keys()]);
     this.id = inputOf("search", "id", "id", "Search by the id of a request");
     this.quiet = inputOf("checkbox", "hide", "", "hide progress and logs");
-    this.clear = button("plain", "clear", () => this.reset());
+    this.clear = button("plain", "clear", () => {
+      this.reset();
+      this.words.focus();
+    });
     this.clear.hidden = true;
     const methods = element("datalist", "", ...session.methods.map(suggestion));
     methods.id = "methods";

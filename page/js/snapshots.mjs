@@ -4,10 +4,18 @@ import { EDITOR, SNAPSHOT, session } from "./data.mjs";
 import { SETS_TEXT, namingRows } from "./documents.mjs";
 import { factsOf } from "./facts.mjs";
 
-// How many earlier versions are kept for snapshots that come late.
-const KEPT = 16;
+// How many earlier versions are kept for snapshots that come late, and how many snapshots may wait.
+const KEPT = 16, MOST_WAITING = 1000;
 
 const statuses = new Map();
+
+// Lets a snapshot wait. Of too many, what becomes of the first one is not told.
+function wait(waiting, snapshot) {
+  waiting.push(snapshot);
+  if (waiting.length > MOST_WAITING) {
+    statuses.set(waiting.shift(), null);
+  }
+}
 
 // An open document: the versions that messages set, and the snapshots that wait for a greater one.
 class Opening {
@@ -28,7 +36,7 @@ class Opening {
   take(snapshot) {
     const held = this.versions.at(-1);
     if (snapshot.version > held) {
-      this.waiting.push(snapshot);
+      wait(this.waiting, snapshot);
     } else if (this.versions.slice(-KEPT - 1).includes(snapshot.version)) {
       statuses.set(snapshot, "equal");
     }
@@ -49,7 +57,7 @@ function followRow(row, opening, waiting) {
     } else if (opening) {
       opening.take(row);
     } else {
-      waiting.push(row);
+      wait(waiting, row);
     }
     return opening;
   }

@@ -120,8 +120,9 @@ def pins_an_event(page):
         row = page.run("return document.querySelector('.selected .say').getBoundingClientRect().toJSON()")
         assert page.run("return document.elementFromPoint(arguments[0], arguments[1])?.closest('#lanes') !== null", row["x"] + 5, row["y"] + 5)
         assert page.run("return document.documentElement.scrollWidth") <= width
-        page.all("#pane button")[1].click()
+        page.all("#pane .pane-head button")[1].click()
         assert page.run("return document.getElementById('pane').hidden")
+        assert page.run("return document.activeElement.closest('.row.selected') !== null")
 
 
 def copies_a_message(page, program, log):

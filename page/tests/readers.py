@@ -79,6 +79,18 @@ def names_what_can_be_used(page):
     assert names == ["which document", "which events"], names
 
 
+def keeps_the_focus_when_parts_go(page):
+    """A button that is gone after it was used leaves the focus at what it showed."""
+    page.open()
+    page.all("input.search")[0].send_keys("didChange")
+    page.wait("return !document.querySelector('.search .plain').hidden")
+    page.all(".search .plain")[0].click()
+    assert page.run("return document.activeElement.matches('input.search')"), page.run(FOCUS)
+    skipped = page.all(".first button.skipped")
+    page.run("arguments[0].focus(); arguments[0].click()", skipped[0])
+    assert page.run("return document.activeElement.matches('.first .pair.equal')"), page.run(FOCUS)
+
+
 def has_headings_in_order(page):
     """One h1; no heading is more than one level below the one before it."""
     page.open(link="#event-5")
@@ -221,6 +233,8 @@ def tests_of(window, program, place):
         wide = window(written(place, name, content))
         yield f"wraps {name}", lambda wide=wide: wraps(wide)
         yield f"has_headings_in_order {name}", lambda wide=wide: has_headings_in_order(wide)
+        if name == "c differs.log":
+            yield "keeps_the_focus_when_parts_go", lambda wide=wide: keeps_the_focus_when_parts_go(wide)
     marks = window(written(place, "marks.log", crowded()))
     yield "boxes_marks_that_hide_others", lambda: boxes_marks_that_hide_others(marks)
     long = window(written(place, "b long.log", logs.long(1000, lines=40)))
