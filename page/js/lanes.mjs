@@ -146,7 +146,7 @@ export class Lanes {
 
   redraw(item) {
     const node = this.nodes.get(item);
-    if (!node) {
+    if (!node?.isWaiting) {
       return;
     }
     const made = this.nodeOf(item), hasFocus = node.contains(document.activeElement);
@@ -161,6 +161,7 @@ export class Lanes {
   nodeOf(item) {
     const node = element("div", classesOf(item), lineOf(item, this.height));
     node.item = item;
+    node.isWaiting = item.event !== undefined && !isLoaded(item);
     node.classList.toggle("selected", item === this.selected);
     const say = node.querySelector(".say");
     if (say) {

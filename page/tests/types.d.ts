@@ -6,8 +6,9 @@ interface Array<T> {
 }
 
 interface Node {
-  /** Of a row of the lanes: the event that it shows. */
+  /** Of a row of the lanes: the event that it shows, and whether its content is still missing. */
   item?: any;
+  isWaiting?: boolean;
   /** Of a box: what is copied in place of the name in it. */
   copied?: string;
 }
