@@ -41,7 +41,8 @@ function remember(isOn) {
 export class Keys {
   // `actions` and `steps` are what each key does; a step is told whether it goes back, with Shift.
   constructor(dialog, actions, steps) {
-    Object.assign(this, { dialog, actions, steps, isOn: remembered() });
+    [this.dialog, this.actions, this.steps] = [dialog, actions, steps];
+    this.isOn = remembered();
     dialog.append(...this.parts());
     addEventListener("keydown", (event) => this.take(event));
   }

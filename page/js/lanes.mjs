@@ -22,7 +22,7 @@ export class Lanes {
   // `actions` are what can be done with an open row, each with its name; `selected` is called when
   // a row was chosen.
   constructor(container, actions, selected) {
-    Object.assign(this, { container, actions, tellSelected: selected });
+    [this.container, this.actions, this.tellSelected] = [container, actions, selected];
     this.shown = allItems;
     // The words that were searched for, or null if nothing was.
     this.words = null;
@@ -256,7 +256,8 @@ export class Lanes {
   // Shows these rows and no others, from the first on, or around the selected one; `words` are
   // those that were searched for, null if all rows are shown.
   show(shown, words = null) {
-    Object.assign(this, { shown, words });
+    this.shown = shown;
+    this.words = words;
     this.draw(true);
     const place = shown.indexOf(this.selected);
     if (place >= 0) {

@@ -194,7 +194,8 @@ function onCopy(event) {
 
 // Of many rows, the browser's own search finds only those that are drawn.
 function hintAtSearch(event) {
-  if (!(event.ctrlKey || event.metaKey) || event.key !== "f" || lanes.isWhole) {
+  const isSearch = (event.ctrlKey || event.metaKey) && event.key === "f";
+  if (!isSearch || lanes.isWhole || document.querySelector(".hint")) {
     return;
   }
   const hint = element("p", "hint", "The browser finds only the rows that are drawn: ",

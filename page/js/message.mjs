@@ -7,6 +7,8 @@ import { count, element, eventLink, fill, shownText, source, visibleText } from 
 
 // How much of a long value is shown, and how many lines around what is wrong.
 const MOST_OF_VALUE = 400, LINES_AROUND = 9;
+// In a longer message nothing is marked.
+const LONGEST_MARKED = 300000;
 
 const hasMembers = (it) => typeof it === "object" && it !== null && !Array.isArray(it);
 const isInteger = (it) => Number.isInteger(it) && Math.abs(it) <= 2 ** 31;
@@ -36,8 +38,8 @@ const MEMBERS_OF = {
   sent: () => ["/params/textDocument/version"],
   picked: () => ["/result/capabilities/positionEncoding"],
   registers: ({ method }, message) => {
-    const all = message.params?.registrations ?? [];
-    return all.flatMap((it, at) => (it?.method === method ? `/params/registrations/${at}` : []));
+    const all = message.params?.registrations;
+    return !Array.isArray(all) ? [] : all.flatMap((it, at) => (it?.method === method ? `/params/registrations/${at}` : []));
   },
   change: ({ which, whole }) => [
     `/params/contentChanges/${which - 1}${whole ? "" : "/range"}`,
@@ -106,7 +108,8 @@ function piecesAround(pieces) {
 
 // The content of a message with the members at these pointers marked: whole, or what is near them.
 export function markedContent(content, pointers, isWhole = false) {
-  const made = element("pre", "json"), pieces = markedJson(content, pointers);
+  const made = element("pre", "json"), isLong = content.length > LONGEST_MARKED;
+  const pieces = isLong ? [[content, false]] : markedJson(content, pointers);
   const shown = (text) => (isWhole ? visibleText(text, false, true) : shortPiece(text));
   for (const [text, isMarked] of isWhole ? pieces : piecesAround(pieces)) {
     fill(made, isMarked ? [element("mark", "wrong", shown(text))] : shown(text));

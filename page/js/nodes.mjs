@@ -13,7 +13,10 @@ export function fill(node, children) {
   }
 }
 
-// An element with classes, separated by spaces, and children as for `fill`.
+/**
+ * An element with classes, separated by spaces, and children as for `fill`.
+ * @returns {any}
+ */
 export function element(tag, classes, ...children) {
   const made = document.createElement(tag);
   if (classes) {

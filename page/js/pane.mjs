@@ -6,7 +6,8 @@ import { button, element, whenLoaded } from "./nodes.mjs";
 export class Pane {
   // `goTo` goes to an event; `leave` takes the focus when the pane is closed.
   constructor(node, goTo, leave) {
-    Object.assign(this, { node, goTo, leave, row: null });
+    [this.node, this.goTo, this.leave] = [node, goTo, leave];
+    this.row = null;
   }
 
   // Shows the details of a row, or nothing if it shows them already.

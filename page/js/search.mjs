@@ -55,7 +55,9 @@ function suggestion(value) {
 class Question {
   constructor({ find, id, document: number, only, quiet }) {
     this.words = find.toLowerCase().split(/\s+/).filter(Boolean).map((it) => new Word(it));
-    Object.assign(this, { id, number, isChosen: CHOICES.get(only), quiet, blocks: new Map() });
+    [this.id, this.number, this.quiet] = [id, number, quiet];
+    this.isChosen = CHOICES.get(only);
+    this.blocks = new Map();
   }
 
   // Whether the choices leave a row, whatever the words are.
@@ -115,7 +117,7 @@ class Question {
 
 export class Search {
   constructor(lanes, changed) {
-    Object.assign(this, { lanes, changed, round: 0 });
+    [this.lanes, this.changed, this.round] = [lanes, changed, 0];
     this.words = inputOf("search", "search", "method or words",
       "Search in all that rows and messages say ( / )");
     const files = session.documents.map((uri) => namedText(baseName(uri)));

@@ -20,7 +20,8 @@ function wait(waiting, snapshot) {
 // An open document: the versions that messages set, and the snapshots that wait for a greater one.
 class Opening {
   constructor(waiting) {
-    Object.assign(this, { versions: [], waiting });
+    this.versions = [];
+    this.waiting = waiting;
   }
 
   // A message set a version: snapshots of it are compared, and those of lower ones never will be.
