@@ -41,7 +41,9 @@ function remember(isOn) {
 export class Keys {
   // `actions` and `steps` are what each key does; a step is told whether it goes back, with Shift.
   constructor(dialog, actions, steps) {
-    [this.dialog, this.actions, this.steps] = [dialog, actions, steps];
+    this.dialog = dialog;
+    this.actions = actions;
+    this.steps = steps;
     this.isOn = remembered();
     dialog.append(...this.parts());
     addEventListener("keydown", (event) => this.take(event));

@@ -22,7 +22,9 @@ export class Lanes {
   // `actions` are what can be done with an open row, each with its name; `selected` is called when
   // a row was chosen.
   constructor(container, actions, selected) {
-    [this.container, this.actions, this.tellSelected] = [container, actions, selected];
+    this.container = container;
+    this.actions = actions;
+    this.tellSelected = selected;
     this.shown = allItems;
     // The words that were searched for, or null if nothing was.
     this.words = null;

@@ -6,7 +6,9 @@ import { button, element, whenLoaded } from "./nodes.mjs";
 export class Pane {
   // `goTo` goes to an event; `leave` takes the focus when the pane is closed.
   constructor(node, goTo, leave) {
-    [this.node, this.goTo, this.leave] = [node, goTo, leave];
+    this.node = node;
+    this.goTo = goTo;
+    this.leave = leave;
     this.row = null;
   }
 

@@ -55,7 +55,9 @@ function suggestion(value) {
 class Question {
   constructor({ find, id, document: number, only, quiet }) {
     this.words = find.toLowerCase().split(/\s+/).filter(Boolean).map((it) => new Word(it));
-    [this.id, this.number, this.quiet] = [id, number, quiet];
+    this.id = id;
+    this.number = number;
+    this.quiet = quiet;
     this.isChosen = CHOICES.get(only);
     this.blocks = new Map();
   }
@@ -117,7 +119,9 @@ class Question {
 
 export class Search {
   constructor(lanes, changed) {
-    [this.lanes, this.changed, this.round] = [lanes, changed, 0];
+    this.lanes = lanes;
+    this.changed = changed;
+    this.round = 0;
     this.words = inputOf("search", "search", "method or words",
       "Search in all that rows and messages say ( / )");
     const files = session.documents.map((uri) => namedText(baseName(uri)));
