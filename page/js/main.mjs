@@ -98,10 +98,11 @@ function toggleTheme() {
 }
 
 function leaveSearch() {
-  if (document.activeElement === document.body) {
+  const focused = /** @type {HTMLElement} */ (document.activeElement);
+  if (focused === document.body) {
     search.reset();
   }
-  document.activeElement.blur();
+  focused.blur();
 }
 
 function toPartner() {

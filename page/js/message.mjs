@@ -12,19 +12,30 @@ const LONGEST_MARKED = 300000;
 
 const hasMembers = (it) => typeof it === "object" && it !== null && !Array.isArray(it);
 const isInteger = (it) => Number.isInteger(it) && Math.abs(it) <= 2 ** 31;
-const isParams = (it) => typeof it === "object";
 
 // What JSON-RPC and LSP ask of each message: a member, and whether its value is good. The first one
 // that is not is wrong.
 const MEMBERS = [
-  ["jsonrpc", (it) => it === "2.0"],
-  ["method", (it, message) => !Object.hasOwn(message, "method") || typeof it === "string"],
-  ["id", (it, message) => !Object.hasOwn(message, "id") || isInteger(it) ||
-    typeof it === "string" || (it === null && !Object.hasOwn(message, "method"))],
-  ["params", (it, message) => !Object.hasOwn(message, "params") || isParams(it)],
-  ["error", (it, message) => Object.hasOwn(message, "method") ||
-    !Object.hasOwn(message, "error") || Object.hasOwn(message, "result") ||
-    (hasMembers(it) && isInteger(it.code) && typeof it.message === "string")],
+  { name: "jsonrpc", isGood: (it) => it === "2.0" },
+  {
+    name: "method",
+    isGood: (it, message) => !Object.hasOwn(message, "method") || typeof it === "string",
+  },
+  {
+    name: "id",
+    isGood: (it, message) => !Object.hasOwn(message, "id") || isInteger(it) ||
+      typeof it === "string" || (it === null && !Object.hasOwn(message, "method")),
+  },
+  {
+    name: "params",
+    isGood: (it, message) => !Object.hasOwn(message, "params") || typeof it === "object",
+  },
+  {
+    name: "error",
+    isGood: (it, message) => Object.hasOwn(message, "method") ||
+      !Object.hasOwn(message, "error") || Object.hasOwn(message, "result") ||
+      (hasMembers(it) && isInteger(it.code) && typeof it.message === "string"),
+  },
 ];
 
 // For each kind of fact that names a member: where it is in the message.
@@ -39,7 +50,8 @@ const MEMBERS_OF = {
   picked: () => ["/result/capabilities/positionEncoding"],
   registers: ({ method }, message) => {
     const all = message.params?.registrations;
-    return !Array.isArray(all) ? [] : all.flatMap((it, at) => (it?.method === method ? `/params/registrations/${at}` : []));
+    return Array.isArray(all) ? [...all.keys()].filter((at) => all[at]?.method === method)
+      .map((at) => `/params/registrations/${at}`) : [];
   },
   change: ({ which, whole }) => [
     `/params/contentChanges/${which - 1}${whole ? "" : "/range"}`,
@@ -59,9 +71,9 @@ export function wrongMembers(violation, message) {
       return pointers(fact, message);
     }
   }
-  const wrong = MEMBERS.find(([name, isGood]) => !isGood(message[name], message));
+  const wrong = MEMBERS.find(({ name, isGood }) => !isGood(message[name], message));
   if (wrong) {
-    return [`/${wrong[0]}`];
+    return [`/${wrong.name}`];
   }
   const answers = ["result", "error"].filter((name) => Object.hasOwn(message, name));
   return answers.map((name) => `/${name}`);

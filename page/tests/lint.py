@@ -1,5 +1,6 @@
 """The scripts of the page, as Debian's linter and its compiler of types see them."""
 
+import os
 import re
 import shutil
 import subprocess
@@ -17,12 +18,16 @@ def passes(*words):
     if shutil.which(words[0]) is None:
         print(f"{words[0]} is not installed: it is skipped")
         return
-    done = subprocess.run(words, cwd=PAGE, capture_output=True, text=True, timeout=SECONDS)
+    # A Node that is not Debian's does not look for modules where Debian's tools have theirs.
+    env = {"NODE_PATH": "/usr/share/nodejs", **os.environ}
+    done = subprocess.run(words, cwd=PAGE, env=env, capture_output=True, text=True, timeout=SECONDS)
     assert done.returncode == 0, (done.stdout + done.stderr)[:1500]
 
 
 def scripts_are_linted(program, place):
-    passes("eslint", "--no-eslintrc", "--config", HERE / "eslint.json", "--ext", ".mjs", "js", "tests")
+    lint = ("eslint", "--no-eslintrc", "--config", HERE / "eslint.json", "--ext", ".mjs")
+    passes(*lint, "js")
+    passes(*lint, "--env", "node", "--rule", "max-len: [error, 130]", "tests")
 
 
 def scripts_have_types(program, place):

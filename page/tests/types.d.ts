@@ -5,7 +5,12 @@ interface Array<T> {
   findLastIndex(is: (item: T, at: number, all: T[]) => unknown): number;
 }
 
+interface ChildNode {
+  data?: string;
+}
+
 interface Node {
+  data?: string;
   /** Of a row of the lanes: the event that it shows, and whether its content is still missing. */
   item?: any;
   isWaiting?: boolean;
@@ -14,3 +19,4 @@ interface Node {
 }
 
 declare var trustedTypes: any;
+declare var DecompressionStream: any;
