@@ -46,7 +46,7 @@ const MEMBERS_OF = {
   ],
   id: () => ["/id"],
   phase: () => ["/method"],
-  sent: () => ["/params/textDocument/version"],
+  held: () => ["/params/textDocument/version"],
   picked: () => ["/result/capabilities/positionEncoding"],
   registers: ({ method }, message) => {
     const all = message.params?.registrations;

@@ -123,7 +123,7 @@ export function violationPart(violation, isFirst = false) {
   return whenLoaded(needed, () => {
     const [heading, parts, without] = causePart(violation, row, isFirst);
     return element("div", "violation-part",
-      isFirst ? element("h2", "part-heading", heading) : null, parts, suspectsPart(violation),
+      isFirst ? element("h2", "unseen", heading) : null, parts, suspectsPart(violation),
       violation.follows ? whyItFollows(violation) : whyItIs(violation, without),
       aboutRule(violation.rule, violation.facts));
   });
