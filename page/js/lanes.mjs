@@ -232,7 +232,7 @@ export class Lanes {
       }
     } else {
       this.heights.delete(item);
-      node?.replaceChildren(node.firstChild);
+      [...node?.children ?? []].slice(1).forEach((it) => it.remove());
       node?.querySelector(".say").setAttribute("aria-expanded", "false");
     }
     this.measureNow(item);
