@@ -147,7 +147,7 @@ def boxes_marks_that_hide_others(page):
     crowded = page.run(r"""const found = [], walker = document.createTreeWalker(document.body, NodeFilter.SHOW_TEXT);
         while (walker.nextNode()) {
           const node = walker.currentNode;
-          if (/\p{M}{4}/u.test(node.data) && !/SCRIPT|STYLE/.test(node.parentElement.tagName)) found.push(node.parentElement.outerHTML.slice(0, 200));
+          if (/\p{M}{4}/u.test(node.data) && node.parentElement.getClientRects().length) found.push(node.parentElement.outerHTML.slice(0, 200));
         }
         return found.concat(document.title.match(/\p{M}{4}/u) ?? [])""")
     assert not crowded, crowded
