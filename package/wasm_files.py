@@ -15,6 +15,7 @@ WEB, PAGE = TOP / "web", TOP / "page"
 sys.path += [str(TOP / "recorders"), str(PAGE)]
 
 import document  # noqa: E402
+import in_markdown  # noqa: E402
 import report_lines  # noqa: E402
 import rules  # noqa: E402
 from wasm_module import Refused, output  # noqa: E402
@@ -69,6 +70,7 @@ def parts_of_pages(build):
         "policy": page.parts["POLICY"],
         "forms": [form for forms in report_lines.forms().values() for form in forms],
         "rules": rules.rules(),
+        "words": in_markdown.WORDS,
         "build": build,
     }
 

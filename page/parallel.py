@@ -13,30 +13,40 @@ from stops import held
 MEGABYTE = 1_000_000
 
 
-class Progress:
-    """How far a log was read: a line on a terminal each second, like that of lspcheck."""
+class Line:
+    """A line on a terminal that is replaced at most each second, like that of lspcheck."""
 
-    def __init__(self, size):
-        self.size, self.length = size // MEGABYTE, 0
+    def __init__(self):
+        self.length, self.last = 0, time.monotonic()
         self.is_on = sys.stderr is not None and sys.stderr.isatty()
-        self.last = time.monotonic()
 
     def is_due(self):
         return self.is_on and time.monotonic() - self.last >= 1
 
-    def advance(self, who, read):
-        if self.is_due():
-            self.last = time.monotonic()
-            read //= MEGABYTE
-            percent = 100 * read // self.size if self.size else 100
-            line = f"lspcheck-page: {who} read {read} of {self.size} MB, {percent} %"
-            print(f"\r{line:<{self.length}}", end="", file=sys.stderr, flush=True)
-            self.length = max(self.length, len(line))
+    def put(self, said):
+        self.last = time.monotonic()
+        line = f"lspcheck-page: {said}"
+        print(f"\r{line:<{self.length}}", end="", file=sys.stderr, flush=True)
+        self.length = max(self.length, len(line))
 
     def clear(self):
         if self.length:
             print(f"\r{'':<{self.length}}\r", end="", file=sys.stderr, flush=True)
             self.length = 0
+
+
+class Progress(Line):
+    """How far a log was read."""
+
+    def __init__(self, size):
+        super().__init__()
+        self.size = size // MEGABYTE
+
+    def advance(self, who, read):
+        if self.is_due():
+            read //= MEGABYTE
+            percent = 100 * read // self.size if self.size else 100
+            self.put(f"{who} read {read} of {self.size} MB, {percent} %")
 
 
 class Run:
@@ -74,6 +84,11 @@ class Run:
     def text(self):
         self.done().out.seek(0)
         return self.out.read()
+
+    def bytes(self):
+        """What the command wrote, if it has ended."""
+        self.out.seek(0)
+        return self.out.buffer.read()
 
     def count(self):
         """How many lines the command writes about an event."""

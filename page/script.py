@@ -52,6 +52,13 @@ def number(word):
     return int(word)
 
 
+def whole_number(word):
+    """A number from 0 that is an argument."""
+    if not word.isascii() or not word.isdigit():
+        raise argparse.ArgumentTypeError(f"{word} is not a number from 0")
+    return int(word)
+
+
 def seconds(word):
     """A time that is an argument."""
     try:

@@ -200,13 +200,17 @@ class Session:
     """The rows of the page, one for each event that it shows. Each content is put where it is kept
     as soon as it is read."""
 
-    def __init__(self, put):
+    def __init__(self, put, wanted=()):
         self.put = put
+        # The contents of wanted events, as far as the page has them.
+        self.wanted, self.kept = wanted, {}
         self.methods, self.documents, self.joins = Names(), Names(), Joins()
         self.rows = Columns()
         # The documents that any event of the log names, also one that is not shown.
         self.named = set()
         self.encoding, self.sync, self.client, self.server = "utf-16", "none", {}, {}
+        # Whether the server has accepted `initialize`.
+        self.agreed = False
 
     def join(self, event, message):
         """The request that this event answers or cancels; its row learns of it."""
@@ -230,6 +234,7 @@ class Session:
             result = at(message, "result")
             self.server = name_of(at(result, "serverInfo"))
             if not event.rule:
+                self.agreed = True
                 picked = at(result, "capabilities", "positionEncoding")
                 self.encoding = picked if picked in ENCODINGS else "utf-16"
                 self.sync = sync_of(result)
@@ -252,6 +257,8 @@ class Session:
         row = None
         if is_shown:
             block = self.put(content) if is_whole else -1
+            if is_whole and event.event in self.wanted and event.side != SNAPSHOT:
+                self.kept[event.event] = content
             row = self.add(event, request, asked, len(content), block)
         self.joins.ask(event, row)
 
@@ -275,9 +282,9 @@ class Session:
         return row
 
 
-def read_session(log, listing, choice, put, progress):
-    """The session of the events that are chosen, and the format of the log."""
-    session = Session(put)
+def read_session(log, listing, choice, session, progress):
+    """Reads the events of a log into a session: those that are chosen. Returns the format of the
+    log."""
     with open(log.path, "rb", buffering=BUFFER) as file:
         contents = Contents(file)
         for event in listing:
@@ -289,4 +296,4 @@ def read_session(log, listing, choice, put, progress):
                 progress.advance("it", file.tell())
     session.rows.settle()
     session.named.discard(None)
-    return session, contents.format
+    return contents.format

@@ -2,7 +2,8 @@
 # /usr/share/bash-completion/completions/lspcheck-page.
 
 _lspcheck_page() {
-    local options="-o --program --most-events --most-bytes --small --with-checker --version --help -h"
+    local options="-o --output --markdown --jobs --program --most-events --most-bytes --shrink --small"
+    options+=" --with-checker --version --help -h"
     local word=${COMP_WORDS[COMP_CWORD]} previous=${COMP_WORDS[COMP_CWORD - 1]}
     local given=" " option offered="" at
     for ((at = 1; at < COMP_CWORD; at++)); do
@@ -16,7 +17,8 @@ _lspcheck_page() {
         previous=${COMP_WORDS[COMP_CWORD - 2]}
     fi
     case $previous in
-        --most-events | --most-bytes) return ;;
+        --most-events | --most-bytes | --jobs | --shrink) return ;;
+        --output) compopt -o dirnames && return ;;
         --program) mapfile -t COMPREPLY < <(compgen -c -- "$word") && return ;;
     esac
     if [[ $previous != -o && $word == -* ]]; then

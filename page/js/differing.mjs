@@ -37,7 +37,7 @@ function ownText(violation, row) {
 }
 
 // Both texts: [by the messages, the editor's own, who says so], or null.
-export function bothTexts(violation, row) {
+function bothTexts(violation, row) {
   if (violation === session.violations[0] && session.texts) {
     return [linesOf(session.texts.messages), linesOf(session.texts.editor), "lspcheck"];
   }

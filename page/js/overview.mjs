@@ -1,8 +1,8 @@
 // The head of the page: the verdict, the first violation, the documents.
 
+import { copyButton } from "./copying.mjs";
 import { EDITOR, SNAPSHOT, damage, session, verdict } from "./data.mjs";
 import { namingRows } from "./documents.mjs";
-import { copyMarkdown } from "./markdown.mjs";
 import {
   baseName, button, count, element, eventLink, folded, labelled, shownText, source, titled,
   visibleText,
@@ -76,13 +76,18 @@ function factsOfLog() {
   return element("p", "quiet", facts.join(" · "));
 }
 
+// What one pastes into an issue, which lspcheck-page wrote.
+function markdownButton() {
+  return session.markdown ? copyButton("copy as Markdown", () => session.markdown) : null;
+}
+
 // What the page says about itself.
 function aboutPage() {
   return element("p", "quiet", "The verdict is that of ", shownText(session.version),
     ". What this page worked out itself is marked ", source("page"),
     ". Lines and columns are counted from 1, as in editors, columns ",
     `in ${session.encoding}; messages, and the words of lspcheck, count both from 0. `,
-    copyMarkdown());
+    markdownButton());
 }
 
 export function verdictPart() {

@@ -21,7 +21,7 @@ export function smallestLines() {
 }
 
 // What they lack of the session that shows the violation.
-export function smallestLack() {
+function smallestLack() {
   const [violation] = session.violations;
   return factsOf(violation, "in-editor").length ? ", without its snapshot" : "";
 }

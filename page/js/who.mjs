@@ -20,7 +20,7 @@ function longName({ name, version }) {
   return namedText([name, version].filter(Boolean).join(" "));
 }
 
-export const editorName = shortName(session.client), serverName = shortName(session.server);
+const editorName = shortName(session.client), serverName = shortName(session.server);
 
 export function whoLine() {
   const names = `${editorName ?? "an editor without a name"} to ` +

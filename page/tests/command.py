@@ -22,9 +22,9 @@ EXAMPLE = TOP / "examples/wrong-column.log"
 
 
 def run(*words, **how):
-    """Runs the command as a user does."""
+    """Runs the command as a user does, but who does not want the smallest log unless he says so."""
     how = {"capture_output": True, "text": True, "timeout": SECONDS, **how}
-    return subprocess.run([sys.executable, COMMAND, *map(str, words)], **how)
+    return subprocess.run([sys.executable, COMMAND, "--shrink", "0", *map(str, words)], **how)
 
 
 def answers(done, status, errors):
@@ -206,6 +206,15 @@ def says_what_is_wrong_with_words(program, place):
     answers(run(EXAMPLE, "--most-events", "0"), 64, "0 is not a number from 1")
     answers(run(EXAMPLE, "--\x1b[31m"), 64, "--?[31m")
     answers(run(EXAMPLE, "--small", "--with-checker"), 64, "exclude each other")
+    answers(run(EXAMPLE, EXAMPLE), 64, "several LOGs need --output FOLDER or --markdown")
+    answers(run(EXAMPLE, "--output", place / "x", "-o", "x.html"), 64, "-o is for one page")
+    answers(run(EXAMPLE, "--markdown", "-o", "x.html"), 64, "-o is for one page")
+    answers(run("-", EXAMPLE, "-", "--markdown"), 64, "standard input is read once")
+    answers(run(EXAMPLE, "--markdown", "--with-checker"), 64, "--markdown alone writes none")
+    answers(run(EXAMPLE, "--markdown", "--jobs", "0"), 64, "0 is not a number from 1")
+    answers(run(EXAMPLE, "--shrink", "-1"), 64, "--shrink")
+    answers(run(EXAMPLE, "--shrink", "1.5"), 64, "1.5 is not a number from 0")
+    assert not (place / "x").exists()
     nowhere = {**os.environ, "LSPCHECK_WEB": str(place)}
     answers(run(EXAMPLE, "--with-checker", "--program", program, env=nowhere), 1, "lspcheck.wasm: package/wasm builds it")
     help_text = run("--help")

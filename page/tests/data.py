@@ -5,13 +5,17 @@ import hashlib
 import html
 import re
 import subprocess
+import time
 from html.parser import HTMLParser
 
 import logs
-from command import TOP, run
+from command import TOP, run, script
+from processes import is_running, quoted, until
 
 EXAMPLES = sorted((TOP / "examples").glob("*.log"))
 WRONG = TOP / "examples/wrong-column.log"
+# What the row of a rule in docs/RULES.md goes on with: the rows that only explain lines have no third cell.
+TEXT_OF_RULE = r"[^|]*\| [^|]*\|"
 NO = re.compile(r"no (\d+) (\w+) (\d+) event (\d+)( follows)?")
 
 
@@ -30,9 +34,14 @@ def page_of(program, log, *words):
     return done.stdout
 
 
+def shrunk(program, log, *words):
+    """What `recorders/shrink` writes."""
+    return output(TOP / "recorders/shrink", *words, "--quiet", "--program", program, log)
+
+
 def smallest_of(program, log):
     """What `recorders/shrink --lit` writes."""
-    return output(TOP / "recorders/shrink", "--lit", "--quiet", "--program", program, log).decode(errors="replace")
+    return shrunk(program, log, "--lit").decode(errors="replace")
 
 
 def written(place, name, log):
@@ -50,6 +59,12 @@ def line_of(index, row):
     words = [event, ["editor", "server"][row["side"]], kind, row["id"] if kind != "notification" else None]
     words += [index["methods"][row["method"]] if kind in ("request", "notification") else None]
     return [it for it in words if it is not None]
+
+
+def section_of(rule):
+    """The heading of docs/RULES.md below which the table has a rule, or a span of them."""
+    before = re.split(rf"^\| (?:{rule} \| {TEXT_OF_RULE})", (TOP / "docs/RULES.md").read_text(), flags=re.M)[0]
+    return re.findall(r"^## (.*?)(?: \(.*\))?$", before, re.M)[-1]
 
 
 def has_what_was_written(program, place):
@@ -76,7 +91,8 @@ def has_what_was_written(program, place):
         for it in index["violations"]:
             assert ("\n".join(it["lines"]) in explained) and bool(it["lines"]) != it["follows"]
             assert len(it["lines"]) == (len(it["facts"]) + 2 if it["lines"] else 0), it
-            assert index["rules"][str(it["rule"])]["text"] == it["text"]
+            rule = index["rules"][str(it["rule"])]
+            assert rule["text"] == it["text"] and rule["section"] == section_of(it["rule"]), (it, rule)
 
 
 def has_both_texts(program, place):
@@ -203,6 +219,38 @@ def has_the_smallest_session(program, place):
     assert logs.data_of(page_of(program, WRONG))[0]["smallest"] is None
 
 
+def has_the_smallest_log(program, place):
+    """The log that `recorders/shrink` writes, if it is found in time."""
+    for log in EXAMPLES:
+        page = page_of(program, log, "--shrink", "300")
+        index, found = logs.data_of(page)[0], logs.blocks_of(page).get("case")
+        wanted = shrunk(program, log) or None
+        assert found == wanted, (log, found, wanted)
+        assert (wanted is None) == (index["case"] is None) == (index["report"][0] == "yes"), log
+        if wanted:
+            small = written(place, "small.log", wanted)
+            events = [it for it in lines_of(program, "show", "--all", "--long", small) if it[0].isdigit()]
+            rule = NO.fullmatch(index["report"][0])[1]
+            assert NO.fullmatch(lines_of(program, "check", small)[0])[1] == rule, log
+            # That of the verdict has two lines without its number.
+            assert index["case"] == {"events": len(events) + 1, "bytes": len(wanted)}, (log, index["case"], events)
+    assert logs.data_of(page_of(program, WRONG, "--small", "--shrink", "300"))[0]["case"] is None
+
+
+def waits_a_while_for_the_smallest_log(program, place):
+    """As long as the user says, and then what looks for it has ended."""
+    slow = script(place / "slow", f'[ "$*" = "explain --quiet" ] && {{ echo $$ > {quoted(place / "pid")}; exec sleep 600; }}\nexec {quoted(program)} "$@"')
+    begun = time.monotonic()
+    index, _ = logs.data_of(page_of(slow, WRONG, "--shrink", "1"))
+    assert index["case"] is None and time.monotonic() - begun > 1
+    assert index["report"] == lines_of(program, "explain", WRONG)
+    assert until(lambda: not is_running(int((place / "pid").read_text())))
+    (place / "pid").unlink()
+    assert logs.data_of(page_of(slow, WRONG, "--shrink", "0"))[0]["case"] is None and not (place / "pid").exists()
+    fails = script(place / "fails", f'[ "$*" = "explain --quiet" ] && exit 3\nexec {quoted(program)} "$@"')
+    assert logs.data_of(page_of(fails, WRONG, "--shrink", "300"))[0]["case"] is None
+
+
 def shows_no_words_of_a_redacted_log(program, place):
     """A page of what `lspcheck redact` writes has no words of the sources, whole or small."""
     words = ["include", "stdio", "ASCII", "struct", "printf", "strlen", "lspwork", "Emacs"]
@@ -223,5 +271,7 @@ TESTS = [
     shows_bad_logs,
     shows_how_the_server_ended,
     has_the_smallest_session,
+    has_the_smallest_log,
+    waits_a_while_for_the_smallest_log,
     shows_no_words_of_a_redacted_log,
 ]

@@ -384,7 +384,7 @@ def data_of(page):
     were left out."""
     blocks = blocks_of(page)
     index = json.loads(blocks["session"])
-    assert len(blocks) == index["blocks"] + 1
+    assert len(blocks) == index["blocks"] + 1 + (index["case"] is not None)
     index["rows"] = [dict(zip(index["rows"], row)) for row in zip(*index["rows"].values())]
     contents, filled = [], {}
     for row in index["rows"]:
@@ -392,5 +392,5 @@ def data_of(page):
         start = filled.get(name, 0)
         contents.append(None if row["block"] < 0 else blocks[name][start : start + size])
         filled[name] = start + (size if row["block"] >= 0 else 0)
-    assert all(filled[name] == len(block) for name, block in blocks.items() if name != "session")
+    assert all(filled[name] == len(block) for name, block in blocks.items() if name not in ("session", "case"))
     return index, contents

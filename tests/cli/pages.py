@@ -153,21 +153,21 @@ def try_recorder(trial):
 
 
 def try_judge(trial):
-    """The script for CI: its status, what it writes, and pages where there are violations. It runs as
-    shells run the lines of a job."""
+    """The script for CI: its status, what it writes, and, unless all logs are clean, pages and a summary.
+    It runs as shells run the lines of a job."""
     commands = trial.folder / "commands"
     commands.mkdir()
     (commands / "lspcheck").symlink_to(trial.program)
     (commands / "lspcheck-page").symlink_to(TOP / "page/lspcheck-page")
     search = {**os.environ, "PATH": f"{commands}:{os.environ['PATH']}"}
     clean, stopped = [(TOP / f"examples/{name}.log").read_bytes() for name in ("clangd-session", "stopped-twice")]
-    for what, logs, status, words, pages in [
-        ("clean", {"a": clean, "b": clean}, 0, "logs/a.log: yes\nlogs/b.log: yes\n", []),
-        ("a violation", {"a": clean, "b c": stopped}, 1, "phase exited\n", ["b c.html"]),
-        ("names", {"a": clean, "b c": stopped}, 1, "\n\nlogs/b c.log:\nno ", ["b c.html"]),
-        ("nothing compared", {"a": b"lsp-session 2\n"}, 1, "note nothing-compared\n", []),
-        ("a damaged log", {"a": clean[:-1]}, 2, "bad log L4 ", ["a.html"]),
-        ("no log", {}, 3, "", []),
+    for what, logs, status, words, pages, summary in [
+        ("clean", {"a": clean, "b": clean}, 0, "logs/a.log: yes\nlogs/b.log: yes\n", [], ""),
+        ("a violation", {"a": clean, "b c": stopped}, 1, "phase exited\n", ["a.html", "b-c.html"], "**2 logs: 1 no, 1 yes**\n"),
+        ("names", {"a": clean, "b c": stopped}, 1, "\n\nlogs/b c.log:\nno ", ["a.html", "b-c.html"], "\n### `logs/b c.log`\n"),
+        ("nothing compared", {"a": b"lsp-session 2\n"}, 1, "note nothing-compared\n", ["a.html"], "\n- `note nothing-compared`\n"),
+        ("a damaged log", {"a": clean[:-1]}, 2, "bad log L4 ", ["a.html"], "Bad log L4 ("),
+        ("no log", {}, 3, "", ["log.html"], ""),
     ]:
         place = trial.folder / what
         (place / "logs").mkdir(parents=True)
@@ -177,4 +177,7 @@ def try_judge(trial):
         run = subprocess.run(["sh", "judge.sh"], cwd=place, env=search, capture_output=True, text=True, timeout=SECONDS)
         good = run.returncode == status and words in run.stdout and (status > 0 or run.stdout == words)
         trial.note(f"judge.sh: {what}", good, run)
-        trial.note(f"judge.sh: {what}: pages", sorted(it.name for it in place.glob("logs/*.html")) == pages, run)
+        wanted = [*pages, "index.html"] if pages else []
+        trial.note(f"judge.sh: {what}: pages", sorted(it.name for it in place.glob("pages/*")) == wanted, run)
+        told = (place / "summary.md").read_text() if pages else ""
+        trial.note(f"judge.sh: {what}: summary", summary in told and (place / "summary.md").exists() == bool(pages), told)

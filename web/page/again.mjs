@@ -156,8 +156,8 @@ class Events {
     return {
       kinds: KINDS, events: listing.events, sides: listing.sides, unlisted: listing.unlisted,
       ending: listing.ending, format: this.contents.format, named: session.named.size,
-      encoding: session.encoding, sync: session.sync, client: session.client,
-      server: session.server, methods: [...session.methods.numbers.keys()],
+      agreed: session.agreed, encoding: session.encoding, sync: session.sync,
+      client: session.client, server: session.server, methods: [...session.methods.numbers.keys()],
       documents: [...session.documents.numbers.keys()],
     };
   }

@@ -12,6 +12,11 @@ const MOST_CHECKPOINTS = 12;
 /** The choice for a log that is not too long. */
 export const EVERYTHING = { isShown: () => true, isWhole: () => true };
 
+/** Whether a URI can be an argument of the program. */
+export function canName(uri) {
+  return !uri.startsWith("-") && !uri.includes("\0");
+}
+
 /** The spans of events, in order, with those that touch as one. */
 function union(spans) {
   const joined = [];
@@ -123,7 +128,7 @@ export class Around {
     }
     const uris = [...session.documents.numbers.keys()];
     return [...needed.values()].sort((a, b) => a[0] - b[0] || a[1] - b[1] || a[2] - b[2])
-      .filter(([, , at]) => !uris[at].startsWith("-") && !uris[at].includes("\0"))
+      .filter(([, , at]) => canName(uris[at]))
       .slice(0, MOST_CHECKPOINTS)
       .map(([, first, document]) =>
         ({ first, document, uri: uris[document], message: this.before.get(first) }));

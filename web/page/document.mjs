@@ -1,10 +1,11 @@
 // The page of lspcheck-page for a log, made here as page/document.py makes it. `parts` are what
 // package/wasm puts in: the template, the style, the script and the policy of that page, the forms
-// of objects and the rules.
+// of objects, the rules, and the words of Markdown.
 
-import { MOST_BYTES, MOST_EVENTS, EVERYTHING, Around } from "./cuts.mjs";
+import { MOST_BYTES, MOST_EVENTS, EVERYTHING, Around, canName } from "./cuts.mjs";
 import { Contents } from "./contents.mjs";
 import { KINDS, Lines, Listing, explained } from "./listing.mjs";
+import { markdownOf } from "./markdown.mjs";
 import { jsonOf, linesOfReport } from "./report.mjs";
 import { Session } from "./session.mjs";
 
@@ -44,6 +45,21 @@ function textsOf(checker, verdict) {
   }
   const text = (option) => textOf(checker, "explain", option)[1];
   return { messages: text("--by-messages"), editor: text("--in-editor") };
+}
+
+/** The text of a document before the message of which a position is wrong, or null. */
+function textBefore(checker, said) {
+  const [verdict] = said, uri = said.find((it) => it.is === "uri")?.uri;
+  if (![605, 606].includes(verdict.rule) || uri === undefined || !canName(uri)) {
+    return null;
+  }
+  const [status, text] = textOf(checker, "text", "--all", String(verdict.number - 1), uri);
+  return status === 0 ? text : null;
+}
+
+/** The events that Markdown shows. */
+function wantedOf(said) {
+  return new Set(said.filter((it) => ["no", "suspect"].includes(it.is)).map((it) => it.event));
 }
 
 /** The events of the log, first all of them to be counted; those of a short log are kept. */
@@ -180,7 +196,8 @@ export async function pageOf(parts, log, checker) {
   complete(listing, objectsOf(checker, "explain", "--all", "--notes"), parts.forms);
   const isWhole = events.isShort && log.size <= MOST_BYTES;
   const choice = isWhole ? EVERYTHING : new Around(listing, log.size), contents = new Contents(log);
-  const blocks = new Blocks(), session = new Session((content) => blocks.put(content));
+  const blocks = new Blocks();
+  const session = new Session((content) => blocks.put(content), wantedOf(said));
   events.again((event) => {
     const content = contents.of(event), isShown = choice.isShown(event);
     session.take(event, content, isShown, isShown && choice.isWhole(event, content));
@@ -193,16 +210,19 @@ export async function pageOf(parts, log, checker) {
   const index = {
     name: log.name, bytes: log.size, exit: [], said, ending: listing.ending, notes: listing.notes,
     kinds: KINDS, events: listing.events, sides: listing.sides, named: session.named.size,
-    unlisted: listing.unlisted, encoding: session.encoding, sync: session.sync,
+    unlisted: listing.unlisted, agreed: session.agreed, encoding: session.encoding,
+    sync: session.sync,
     client: session.client, server: session.server,
     methods: [...session.methods.numbers.keys()],
     documents: [...session.documents.numbers.keys()],
     rules: rulesNamed(parts.rules, listing, verdict), format: contents.format, version, report,
     left: leftOut(checker, choice, session, listing), small: false, smallest: null, texts,
-    blocks: data.length, rows: session.columns, violations: listing.violations,
+    blocks: data.length, case: null, rows: session.columns, violations: listing.violations,
   };
+  const linesOf = (objects) => linesOfReport(parts.forms, objects);
+  index.markdown = markdownOf(parts, index, linesOf, session.kept, textBefore(checker, said));
   data.push(await blockOf("session", new Blob([jsonOf(index)])));
   const [NAME, REPORT, VERSION] = [log.name, report.join("\n"), version].map(plain);
-  const pieces = filled(parts, { NAME, REPORT, VERSION }, data);
+  const pieces = filled(parts, { NAME, REPORT, VERSION, NEIGHBOURS: "" }, data);
   return { page: new Blob(pieces, { type: "text/html" }), report };
 }

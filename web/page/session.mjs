@@ -2,6 +2,7 @@
 
 import { EDITOR, KINDS, SNAPSHOT } from "./listing.mjs";
 import { jsonOf } from "./report.mjs";
+import { cut } from "./wording.mjs";
 
 const LONGEST_NAME = 300;
 const ENCODINGS = ["utf-8", "utf-16", "utf-32"];
@@ -47,12 +48,6 @@ function at(value, ...path) {
     value = value[name];
   }
   return value;
-}
-
-/** A text, cut to at most `most` characters. */
-function cut(text, most) {
-  const characters = text.length <= most ? [] : [...text];
-  return characters.length <= most ? text : characters.slice(0, most - 1).join("") + "…";
 }
 
 /** A text as JSON, as Python writes it: half of a pair of surrogates stays as it is. */
@@ -189,9 +184,13 @@ function syncOf(result) {
  * number of its block.
  */
 export class Session {
-  constructor(put) {
+  constructor(put, wanted = new Set()) {
     Object.assign(this, { put, methods: new Names(), documents: new Names(), joins: new Joins() });
     Object.assign(this, { encoding: "utf-16", sync: "none", client: {}, server: {} });
+    // Whether the server has accepted `initialize`.
+    this.agreed = false;
+    // The contents of wanted events, as far as the page has them.
+    Object.assign(this, { wanted, kept: new Map() });
     // The documents that any event of the log names, also one that is not shown.
     this.named = new Set();
     this.columns = Object.fromEntries(COLUMNS.map((name) => [name, []]));
@@ -225,6 +224,7 @@ export class Session {
       const result = at(message, "result");
       this.server = nameOf(at(result, "serverInfo"));
       if (!event.rule) {
+        this.agreed = true;
         const picked = at(result, "capabilities", "positionEncoding");
         this.encoding = ENCODINGS.includes(picked) ? picked : "utf-16";
         this.sync = syncOf(result);
@@ -250,6 +250,9 @@ export class Session {
     let row = null;
     if (isShown) {
       row = this.add(event, request, asked, content.length, isWhole ? this.put(content) : -1);
+      if (isWhole && this.wanted.has(event.event) && event.side !== SNAPSHOT) {
+        this.kept.set(event.event, content.slice());
+      }
     }
     this.joins.ask(event, row);
   }
