@@ -268,7 +268,7 @@ def saves_the_smallest_log(page):
     assert f"{index['case']['events']} events, {len(case):,} bytes" in page.text(".smallest-log"), page.text(".smallest-log")
     page.run("""const made = URL.createObjectURL; window.saved = [];
         URL.createObjectURL = (blob) => { blob.text().then((text) => window.saved.push(text)); return made(blob); };
-        addEventListener('click', (event) => { if (event.target.download) window.saved.push(event.target.download); })""")
+        HTMLAnchorElement.prototype.click = function () { window.saved.push(this.download); };""")
     page.all(".smallest-log button")[0].click()
     page.wait("return window.saved.length === 2")
     assert set(page.run("return window.saved")) == {case.decode(), f"{page.path.name.removesuffix('.html').split('.log')[0]}-small.log"}
