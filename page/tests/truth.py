@@ -277,7 +277,8 @@ def who(wanted):
     """The names of both sides, with the first number with a point in their versions."""
     names = [None, None]
     for at, member in ((1, "clientInfo"), (2, "serverInfo")):
-        message = json.loads(wanted.content(at) or b"{}")
+        is_message = wanted.events.get(at, {}).get("kind") in ("request", "result")
+        message = json.loads(wanted.content(at)) if is_message else {}
         found = message.get("params" if at == 1 else "result", {}).get(member)
         if found:
             number = re.search(r"\d+(\.\d+)+", found.get("version", ""))
