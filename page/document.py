@@ -6,39 +6,16 @@ from pathlib import Path
 
 import blocks
 import checker
+import modules
 from files import MARK
 from reading import Reading
 from smallest import number_of_events
 from wording import plain
 
 HERE = Path(__file__).resolve().parent
-# In the order in which they are run. Each defines functions for those after it.
-SCRIPTS = [
-    "data.js",
-    "visible.js",
-    "texts.js",
-    "summaries.js",
-    "documents.js",
-    "difference.js",
-    "nodes.js",
-    "json.js",
-    "commands.js",
-    "words.js",
-    "columns.js",
-    "joins.js",
-    "comparison.js",
-    "details.js",
-    "who.js",
-    "overview.js",
-    "smallest.js",
-    "markdown.js",
-    "rows.js",
-    "lanes.js",
-    "search.js",
-    "main.js",
-]
-# What a page with the checker has in addition.
-OF_CHECKER = ["again.js"]
+# What shows a session, and what judges it again in a page that has the checker. What says that one
+# of them failed is there before them.
+SCRIPT, OF_CHECKER, FAULT = "main.mjs", "again.mjs", "fault.mjs"
 
 
 def hash_of(text):
@@ -65,9 +42,8 @@ class Document:
     def __init__(self, file, has_checker=False):
         self.file = file
         style = (HERE / "page.css").read_text(encoding="utf-8")
-        names = [*SCRIPTS, *(OF_CHECKER if has_checker else [])]
-        code = "".join((HERE / "js" / name).read_text(encoding="utf-8") for name in names)
-        fault = (HERE / "js/fault.js").read_text(encoding="utf-8")
+        code = modules.joined(OF_CHECKER if has_checker else SCRIPT, FAULT)
+        fault = modules.joined(FAULT)
         script = f'"use strict";\n{fault}(async () => {{\n{code}}})().catch(sayFault);\n'
         policy = policy_of(script, style, has_checker)
         self.parts = {"POLICY": policy, "STYLE": style, "SCRIPT": script}

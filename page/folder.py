@@ -13,8 +13,8 @@ from wording import counted, cut, plain, sentence_of, short_name, visible
 
 HERE = Path(__file__).resolve().parent
 INDEX = "index.html"
-# How much of a name is in that of a page, and of a text in the index.
-LONGEST_STEM, LONGEST = 100, 300
+# How much of a name is in that of a page; how much of a text is in the index, and of who took part.
+LONGEST_STEM, LONGEST, LONGEST_NAME = 100, 300, 100
 # What the index may do: use its own style.
 POLICY = "default-src 'none'; style-src {}; base-uri 'none'; form-action 'none'"
 # What is left out of the names of pages, which a shell and a browser then take for names of files.
@@ -102,9 +102,10 @@ def neighbours(logs, names, number):
     return "\n".join(lines)
 
 
-def cell(tag, text, classes=""):
+def cell(text, classes=""):
     classes = f' class="{classes}"' if classes else ""
-    return f"<{tag}{classes}><bdi>{plain(visible(cut(text, LONGEST)))}</bdi></{tag}>"
+    shown = f"<bdi>{plain(visible(cut(text, LONGEST)))}</bdi>" if text else ""
+    return f"<td{classes}>{shown}</td>"
 
 
 def row_of(given, name, told):
@@ -114,10 +115,10 @@ def row_of(given, name, told):
     return "".join([
         f'<tr class="{KINDS[kind]}">',
         f'<th scope="row">{link(name, cut(shown_name(given), LONGEST))}</th>',
-        cell("td", verdict_of(told), "verdict"),
-        cell("td", told.get("what", told.get("failed", ""))),
-        *(cell("td", told.get(it) or "") for it in ("editor", "server")),
-        *(cell("td", it, "number") for it in numbers),
+        cell(verdict_of(told), "verdict"),
+        cell(told.get("what", told.get("failed", ""))),
+        *(cell(cut(told.get(it) or "", LONGEST_NAME)) for it in ("editor", "server")),
+        *(cell(it, "number") for it in numbers),
         "</tr>\n",
     ])
 

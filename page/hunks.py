@@ -10,8 +10,8 @@ LINE = re.compile(r"[^\r\n]*(?:\r\n|\r|\n)|[^\r\n]+$")
 CONTEXT = 3
 # How many lines of both texts together one difference may have.
 MOST_DIFFERING = 48
-# How many characters of each text are compared from the first difference on, and how many of a line
-# are shown, of which so many are before what differs.
+# How many characters of each text are compared from the first difference on; how many of a line are
+# shown, and how many of these before what differs.
 MOST_COMPARED, LONGEST, BEFORE = 1_000_000, 160, 60
 # How many characters of the lines before the first difference are looked at.
 MOST_BEFORE = 100_000
@@ -52,8 +52,8 @@ def lengths_of_difference(some, other, at, place):
 
 
 def runs(some, other):
-    """Both lists of lines in turn: equal runs, which may be empty, with None, and those that differ;
-    and whether it is the last one."""
+    """Both lists of lines in turn: equal runs, which may be empty, with None, and those that
+    differ; and whether it is the last one."""
     at = place = 0
     while True:
         most = min(len(some) - at, len(other) - place)

@@ -59,7 +59,8 @@ HARMLESS = re.compile(r"(?:[A-Za-z0-9 ,;()'’+-]|[.:?](?= |$))+")
 # Words that a forge takes for a link all the same: a commit, or an issue.
 LINKED = re.compile(r"\b(?:[0-9a-f]{7,}|(?!UTF-)[A-Z]+-[0-9]+)\b")
 
-# The whitespace of JSON.
+# What begins the changes in a didChange, and the whitespace of JSON.
+CHANGES = b'"contentChanges"'
 BLANKS = b" \t\r\n"
 # What needs no escape in a word of a shell.
 SEEN = string.ascii_letters + string.digits + " ,._-+=@%/:"
@@ -168,6 +169,12 @@ def columns_part(said, encoding, before, kept):
     return table and [say("columns", line=table[0]), "", *block("", table[1])]
 
 
+def changes_in(content):
+    """The end of a message from its changes on, which is what matters."""
+    start = max(content.find(CHANGES), 0)
+    return ("…" if start else "") + shown_content(content[start:], MOST_OF_SUSPECT)
+
+
 def suspects_part(said, lines_of, kept):
     """The messages that may have made two texts differ."""
     found = [it for it in said if it["is"] == "suspect"]
@@ -175,7 +182,7 @@ def suspects_part(said, lines_of, kept):
     for it in found[:MOST_SUSPECTS]:
         lines += lines_of([it])
         if content := kept.get(it["event"]):
-            lines.append(f"  {shown_content(content, MOST_OF_SUSPECT)}")
+            lines.append(f"  {changes_in(content)}")
     if len(found) > MOST_SUSPECTS:
         lines.append(say("more lines", more=counted(len(found) - MOST_SUSPECTS, "more message")))
     return lines and [say("suspects"), "", *block("", lines)]

@@ -19,10 +19,14 @@ from selenium.webdriver.common.keys import Keys
 
 sys.path.append(str(Path(__file__).resolve().parent.parent.parent / "tests"))
 
+import causes  # noqa: E402
+import finding  # noqa: E402
 import hands  # noqa: E402
 import logs  # noqa: E402
 import programs  # noqa: E402
+import readers  # noqa: E402
 import truth  # noqa: E402
+import versions  # noqa: E402
 from processes import quoted  # noqa: E402
 from data import EXAMPLES, lines_of, output, written  # noqa: E402
 from expected import READ  # noqa: E402
@@ -44,7 +48,7 @@ def opens_without_faults(page, program, log):
     for width in WIDTHS:
         for theme in THEMES:
             page.open(width, theme)
-            head = page.text("h1")
+            head = page.text(".verdict")
             wanted = "Yes" if report[0] == "yes" else report[1]
             assert wanted in head, head
             assert page.run("return document.getElementById('plain').hidden")
@@ -264,8 +268,8 @@ def tests_of(driver, program, place):
     yield "stays_small", lambda: stays_small(window(long), events)
     known = window(EXAMPLES[-1], program=later(program, place))
     yield "shows_objects_that_are_not_known", lambda: shows_objects_that_are_not_known(known)
-    yield from hands.tests_of(window, program, place)
-    yield from truth.tests_of(window, program, place)
+    for part in (hands, truth, versions, causes, readers, finding):
+        yield from part.tests_of(window, program, place)
 
 
 def main(words):

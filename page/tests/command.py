@@ -330,7 +330,8 @@ def ends_what_the_program_started(program, place):
 
 
 def reads_a_log_as_often_as_needed(program, place):
-    """The list of events once, and the explanations at the same time: a program with checks is slow."""
+    """The list of events once, and the explanations at the same time: a program with checks is slow. The
+    text before a wrong position is asked for later."""
     started = quoted(place / "started")
     waits = script(place / "waits", f"""[ "$1" = --version ] && exec {quoted(program)} "$@"
 echo "$*" >> {started}
@@ -339,7 +340,8 @@ exit 9""")
     done = run(EXAMPLE, "--program", waits, "-o", place / "x.html")
     started = (place / "started").read_text().split("\n")[:-1]
     assert done.returncode == 0, done.stderr
-    assert sorted(started) == ["explain --all --notes --json --quiet", "explain --json --quiet", "show --all --long --json --quiet"], started
+    assert sorted(started[:3]) == ["explain --all --notes --json --quiet", "explain --json --quiet", "show --all --long --json --quiet"], started
+    assert started[3:] == ["text --all 30 file:///tmp/lspwork-e/cpp/small.c --quiet"], started
 
 
 def shows_progress_on_a_terminal(program, place):
@@ -436,7 +438,7 @@ def finds_the_program(program, place):
     (place / "bin").mkdir()
     (place / "bin/lspcheck").symlink_to(program)
     (place / "bin/lspcheck-page").symlink_to(COMMAND)
-    near = subprocess.run([place / "bin/lspcheck-page", EXAMPLE, "-o", place / "x.html"], capture_output=True)
+    near = subprocess.run([place / "bin/lspcheck-page", EXAMPLE, "--shrink", "0", "-o", place / "x.html"], capture_output=True)
     assert near.returncode == 0, near
     on_path = {"PATH": f"{place}/bin:{os.environ['PATH']}"}
     assert run(EXAMPLE, "-o", place / "y.html", env=on_path).returncode == 0

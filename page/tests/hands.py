@@ -260,20 +260,24 @@ def has_the_smallest_session(page, log, program):
     assert shown == wanted, (shown, wanted)
 
 
-def copies_markdown(page, log, program):
-    """What one pastes into an issue has the verdict, the report, the difference and versions."""
-    text = copied_markdown(page)
-    assert "clangd -lit-test" not in text, text
-    report = lines_of(program, "explain", log)
-    assert report[1] in text.split("\n")[0] and f"rule {report[0].split()[1]}" in text.split("\n")[0], text
-    assert "\n".join(report) in text, text
-    version = lines_of(program, "--version")[0]
-    assert version in text and log.name in text, text
-    texts = [output(program, "explain", it, log).decode().splitlines() for it in ("--by-messages", "--in-editor")]
-    for sign, lines, others in (("-", *texts), ("+", texts[1], texts[0])):
-        gone = [it for it in lines if it not in others]
-        assert gone and all(f"\n{sign}{it}" in text for it in gone), (gone, text)
-    assert not [it for it in text.split("\n") if it[:1] in "-+" and it[1:].strip("CR") in texts[0] and it[1:] in texts[1]]
+def saves_the_smallest_log(page):
+    """The card of the smallest log has its numbers, and a button that saves it under its name."""
+    index, _ = logs.data_of(page.path.read_text())
+    case = logs.blocks_of(page.path.read_text())["case"]
+    page.open()
+    assert f"{index['case']['events']} events, {len(case):,} bytes" in page.text(".smallest-log"), page.text(".smallest-log")
+    page.run("""const made = URL.createObjectURL; window.saved = [];
+        URL.createObjectURL = (blob) => { blob.text().then((text) => window.saved.push(text)); return made(blob); };
+        HTMLAnchorElement.prototype.click = function () { window.saved.push(this.download); };""")
+    page.all(".smallest-log button")[0].click()
+    page.wait("return window.saved.length === 2")
+    assert set(page.run("return window.saved")) == {case.decode(), f"{page.path.name.removesuffix('.html').split('.log')[0]}-small.log"}
+
+
+def copies_markdown(page):
+    """The button copies the Markdown that is in the page."""
+    index, _ = logs.data_of(page.path.read_text())
+    assert index["markdown"] and copied_markdown(page) == index["markdown"], index["markdown"]
 
 
 def shows_what_was_left_out(page, log, program):
@@ -383,7 +387,7 @@ def gives_away_little(page, program, log):
     lines = [it.split("\n") for it in texts]
     wanted = [str(at + 1) for at, (a, b) in enumerate(zip(*lines)) if a != b for _ in range(2)]
     assert shown == wanted, (shown, wanted)
-    assert "left out of this page" in page.text(".first") and "No · rule" in page.text("h1")
+    assert "left out of this page" in page.text(".first") and "No · rule" in page.text(".rule")
 
 
 def tests_of(window, program, place):
@@ -398,8 +402,9 @@ def tests_of(window, program, place):
     page_of_differs = window(differs)
     yield "has_contrast differs", lambda: has_contrast(page_of_differs)
     yield "copies_what_is_there", lambda: copies_what_is_there(page_of_differs)
-    for test in (searches_in_messages, copies_markdown):
-        yield test.__name__, lambda test=test: test(page_of_differs, differs, program)
+    yield "saves_the_smallest_log", lambda: saves_the_smallest_log(window(differs, "--shrink", "300"))
+    yield "searches_in_messages", lambda: searches_in_messages(page_of_differs, differs, program)
+    yield "copies_markdown", lambda: copies_markdown(page_of_differs)
     small = window(differs, "--small")
     yield "gives_away_little", lambda: gives_away_little(small, program, differs)
     yield "has_the_smallest_session small", lambda: has_the_smallest_session(small, differs, program)

@@ -140,12 +140,13 @@ def edited(encoding, seed):
     return log
 
 
-def long(events, difference=None, lines=400):
-    """A session of edits and answered requests; the snapshot after one of the edits differs."""
+def long(events, difference=None, lines=400, label="x" * 20):
+    """A session of edits and answered requests; the snapshot after one of the edits differs. The answers
+    have twenty items with this label."""
     uri = "file:///long.c"
     lines = [f"int value_{number};\n" for number in range(lines)]
     parts, event, version = [handshake(), frame(b"E", opened(uri, 0, "".join(lines)))], 4, 0
-    answer = {"items": [{"label": "x" * 20, "kind": 3}] * 20}
+    answer = {"items": [{"label": label, "kind": 3}] * 20}
     while event + 4 <= events:
         version += 1
         line = version % len(lines)
@@ -330,6 +331,11 @@ def evil():
     }
 
 
+def unshaken():
+    """A message of the server before any of the editor, and a snapshot that nothing is compared with."""
+    return b"lsp-session 2\n" + frame(b"S", notification("window/showMessage", {"type": 3, "message": "a"})) + snapshot("file:///u", 1, "u")
+
+
 def telling():
     """Logs that show what the examples do not, by name."""
     return {
@@ -341,6 +347,8 @@ def telling():
         "damaged.log": damaged(),
         "joined.log": joined(),
         "noted.log": noted(),
+        "unshaken.log": unshaken(),
+        "nothing.log": b"lsp-session 2\n",
     }
 
 

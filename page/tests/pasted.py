@@ -122,7 +122,9 @@ def shows_the_message(program, place):
         explain = lines_of(program, "explain", log)
         for line in [it for it in explain if it.startswith("suspect ")][:5]:
             content = numbers_for_odd(output(program, "event", line.split()[3], log).decode().rstrip(" \t\r\n"))
-            shown = f"  {content}" if len(content) <= 200 else f"  {content[:199]}…"
+            before, changes, after = content.partition('"contentChanges"')
+            content = changes + after if changes else before
+            shown = ("  …" if changes else "  ") + (content if len(content) <= 200 else f"{content[:199]}…")
             assert any(block[at : at + 2] == [line, shown] for block in blocks_in(printed(program, log))[0] for at in range(len(block))), (log, shown)
             suspects += 1
     assert suspects > 0

@@ -152,14 +152,15 @@ def keeps_hostile_contents_text(program, place):
     start = b"lsp-session 2\n" + logs.frame(b"E", logs.request(1, "initialize", {"capabilities": {}, "clientInfo": client}))
     named = start + logs.frame(b"S", logs.result(1, {"capabilities": {}, "serverInfo": client}))
     hostile = [written(place, f"{'<b>' * at}&lt;{mark}.log", it) for at, it in enumerate([named, logs.hostile(), *logs.evil().values()])]
-    harmless = [written(place, f"{at}.log", logs.joined()) for at in range(len(hostile))]
+    harmless = [written(place, f"{at}.log", log) for at, log in enumerate([logs.noted(), *[logs.joined()] * (len(hostile) - 1)])]
     pages = []
     for name, given in (("hostile", hostile), ("harmless", harmless)):
         (place / name).mkdir()
         pages.append((folder_of(program, place / name, given) / "index.html").read_text())
     tags = [Tags(it) for it in pages]
     names = [[tag for tag, _ in it.tags] for it in tags]
-    assert names[0] == names[1] and "script" not in names[0]
+    assert {*names[0]} == {*names[1]} and "script" not in names[0], names[0]
+    assert [names[0].count(it) for it in ("tr", "td", "a", "style")] == [names[1].count(it) for it in ("tr", "td", "a", "style")]
     assert {key for _, given in tags[0].tags for key, _ in given} == {key for _, given in tags[1].tags for key, _ in given}
     assert tags[0].comments == [" lspcheck-page "]
     assert "\u202e" not in pages[0] and "\u0301" * 4 not in pages[0] and "[U+0301]" in pages[0] and "<img" not in pages[0]

@@ -46,10 +46,11 @@ def joined(*parts):
 
 
 def place(position):
-    """A position, its line counted from 1, as in editors."""
-    line, column = at(position, "line"), at(position, "character")
-    is_number = isinstance(line, int) and not isinstance(line, bool)
-    return f"{line + 1 if is_number else plain(line)}:{plain(column)}"
+    """A position, counted from 1, as in editors."""
+    def from_one(it):
+        return str(it + 1) if isinstance(it, int) and not isinstance(it, bool) else plain(it)
+
+    return ":".join(from_one(at(position, name)) for name in ("line", "character"))
 
 
 def span(range_):

@@ -5,6 +5,7 @@ import shutil
 import subprocess
 from pathlib import Path
 
+import lint
 import logs
 from data import EXAMPLES, output, page_of, smallest_of, written
 from processes import SECONDS
@@ -34,7 +35,7 @@ def contents_are_those_of_lspcheck(program, place):
     page says about it in one line, worked out a second time."""
     found = {**logs.telling(), **logs.evil(), "hostile": logs.hostile(), "said": logs.said()}
     for log in [*EXAMPLES, *(written(place, name, content) for name, content in found.items())]:
-        for row in node("contents.js", blocks_of(page_of(program, log))):
+        for row in node("contents.mjs", blocks_of(page_of(program, log))):
             content = output(program, "event", str(row["event"]), log)
             assert row["content"] == content.decode("utf-8", "surrogateescape"), (log, row)
             try:
@@ -50,7 +51,7 @@ def texts_are_those_of_lspcheck(program, place):
     made = [written(place, f"{name}.log", logs.edited(name, seed)) for seed, name in enumerate(logs.UNITS)]
     compared = 0
     for log in [*EXAMPLES, *made]:
-        for at in node("texts.js", blocks_of(page_of(program, log))):
+        for at in node("texts.mjs", blocks_of(page_of(program, log))):
             words = ["text", "--all", str(at["number"]), at["uri"], log]
             wanted = output(program, *words).decode()
             assert (at["text"] or "") == wanted, f"{log.name}: {words[2:4]}"
@@ -61,8 +62,8 @@ def texts_are_those_of_lspcheck(program, place):
 def texts_after_a_gap(program, place):
     """A cut page makes the same texts from its checkpoints, or says that it cannot."""
     log = written(place, "long.log", logs.long(1000, difference=501, lines=100))
-    whole = {it["event"]: it["text"] for it in node("texts.js", blocks_of(page_of(program, log)))}
-    cut = node("texts.js", blocks_of(page_of(program, log, "--most-events", "150")))
+    whole = {it["event"]: it["text"] for it in node("texts.mjs", blocks_of(page_of(program, log)))}
+    cut = node("texts.mjs", blocks_of(page_of(program, log, "--most-events", "150")))
     known = [it for it in cut if it["text"] is not None]
     assert len(known) > 30 and all(it["text"] == whole[it["event"]] for it in known)
 
@@ -80,7 +81,7 @@ def smallest_sessions_mean_the_same(program, place):
     for name, log in logs.evil().items():
         log = written(place, f"{name}.log", log)
         wanted = smallest_of(program, log).split("\n")[:-1]
-        found = node("smallest.js", blocks_of(page_of(program, log, "--small")))
+        found = node("smallest.mjs", blocks_of(page_of(program, log, "--small")))
         assert found["odd"] == [], (name, found)
         assert len(found["lines"]) == len(wanted), (name, found)
         for line, own in zip(found["lines"], wanted):
@@ -90,7 +91,7 @@ def smallest_sessions_mean_the_same(program, place):
 
 
 def differences_lead_from_one_text_to_the_other(program, place):
-    assert node("differences.js", None) == "good"
+    assert node("differences.mjs", None) == "good"
 
 
 # The objects of other commands, of a verdict, and of the count of notes.
@@ -101,7 +102,7 @@ REPORTED = {"yes", "no", "bad log", "read fault", "out of memory", "messages", "
 def has_words_for_each_form(program, place):
     """Of the forms in report.schema.json, each that explains something, and each note."""
     forms = [it["properties"] for it in json.loads(SCHEMA.read_text())["anyOf"]]
-    found = node("forms.js", None)
+    found = node("forms.mjs", None)
     assert set(found["kinds"]) == {it["is"]["const"] for it in forms} - REPORTED, found["kinds"]
     assert set(found["notes"]) == {it["note"]["const"] for it in forms if "note" in it}, found["notes"]
 
@@ -113,4 +114,5 @@ TESTS = [
     texts_after_a_gap,
     smallest_sessions_mean_the_same,
     differences_lead_from_one_text_to_the_other,
+    *lint.TESTS,
 ]

@@ -9,7 +9,8 @@ import subprocess
 
 import logs
 from data import EXAMPLES, NO, lines_of, output, written
-from expected import READ, TEXTS, Expected, later, version_label
+from expected import READ, Expected, later, version_label
+from sentences import MISUSES, SENTENCES, note_words, words_of
 from window import WIDTHS
 
 ROWS = READ + """
@@ -59,6 +60,28 @@ def shows_each_event(page, program, log):
     for row in opened:
         check_details(row, wanted.events[int(row["event"])], wanted)
     check_tracks(closed, wanted)
+    check_snapshots(program, log, closed, wanted)
+
+
+# What a row says about a snapshot that breaks no rule itself.
+STATUSES = ["equal", "differs", "not compared"]
+
+
+def check_snapshots(program, log, rows, wanted):
+    """Of a session that keeps every rule: as many were not compared as lspcheck counts. Otherwise those
+    differ of which it says so."""
+    events = [wanted.events[int(row["event"])] for row in rows]
+    said = [[tag for tag in row["tags"] if tag in STATUSES] for row in rows]
+    for tags, row, event in zip(said, rows, events):
+        is_told = event["kind"] == "snapshot" and "rule" not in event and "last equal" not in row["tags"]
+        assert len(tags) == is_told, (row, event)
+    if wanted.check[0] == "yes":
+        count = re.fullmatch(r"snapshots (\d+) unmatched (\d+)", wanted.check[2])
+        assert said.count(["not compared"]) == int(count[2]), (said, count)
+        assert said.count(["equal"]) == int(count[1]) - int(count[2]), (said, count)
+    named = re.findall(r"^snapshot event (\d+)", output(program, "explain", "--all", log).decode(), re.M)
+    differ = {row["event"] for row in rows if "differs" in row["tags"]}
+    assert differ == {it for it in named if "rule" not in wanted.events[int(it)]}, (differ, named)
 
 
 def suspects_of(program, log):
@@ -101,7 +124,7 @@ def check_row(row, event, suspects, noted):
     elif event["event"] in suspects:
         tags = ["suspect"]
     tags += ["cancelled"] * ("cancel" in event) + ["note"] * (event["event"] in noted)
-    assert [it for it in row["tags"] if it != "last equal"] == tags, (row, event)
+    assert [it for it in row["tags"] if it not in (*STATUSES, "last equal")] == tags, (row, event)
     said = [f"event {event['event']}", "snapshot" if kind == "snapshot" else f"{event['side']}, {kind}"]
     said += [f"rule {event['rule']}, {event['text']}"] if "rule" in event else []
     said += ["note"] if event["event"] in noted else []
@@ -167,7 +190,7 @@ def why_unanswered(event, wanted):
         if 101 <= rule <= 106:
             return (f"no answer up to event {at}, a frame that cannot be read: nothing that the {other} "
                     "sent after it can be")
-    unread = [at for rule, at in found if 201 <= rule <= 208 and rule != 203 and at > event["event"]]
+    unread = [at for rule, at in found if 201 <= rule <= 209 and at > event["event"] and "method" not in wanted.events[at]]
     if unread:
         return f"not answered, unless event {unread[0]}, which breaks a rule, was the answer"
     if any(rule == 107 for rule, _ in found):
@@ -209,17 +232,28 @@ def shows_the_head(page, program, log):
     head = page.run(READ + "return plain(document.querySelector('.verdict'))")
     sides = [it["side"] for it in wanted.events.values()]
     counts = [sides.count(it) for it in ("editor", "server", "snapshot")]
+    title = page.run(READ + "return plain(document.querySelector('.verdict h1'))")
+    rule = page.run(READ + "return plain(document.querySelector('.verdict .rule'))")
+    so = [json.loads(it[3:]) for it in wanted.explain if it.startswith("so ")]
+    plural = lambda number, noun: f"{number:,} {noun}{'' if number == 1 else 's'}"
     if wanted.check[0] == "yes":
         numbers = [int(it) for line in wanted.check[1:3] for it in re.findall(r"\d+", line)]
         assert counts == numbers[:3], (counts, numbers)
+        assert title == ("Yes The session keeps every rule" if numbers[:2] != [0, 0] else "Yes The log has no message"), title
         found = re.match(r"encoding (\S+) sync (\S+)", wanted.check[3])
-        assert f"columns in {found[1]} · synchronisation: {found[2]}" in head, head
+        agreed = f"columns in {found[1]} · synchronisation: {found[2]}" if found[1] != "-" else "no handshake"
+        assert f" · {agreed}" in head, head
+    elif wanted.check[0].startswith("no "):
+        number, side, its, event, _ = NO.fullmatch(wanted.check[0]).groups()
+        assert title == (f"{so[0]} lspcheck" if so else wanted.check[1]), (title, so)
+        assert rule.startswith(f"No · rule {number} {wanted.check[1]} · " if so else f"No · rule {number} · "), rule
+        if int(event) <= sum(counts):
+            whose = f"snapshot {its}" if side == "snapshot" else f"the {side}’s message {its}"
+            assert rule.endswith(f" · {whose}, event {event} of the log"), rule
+        else:
+            assert f" · the {side}’s " in rule and rule.endswith(", at the end of the log"), rule
     else:
-        assert page.text("h1").endswith(wanted.check[1]), head
-        assert wanted.check[0].split()[1] in page.text("h1"), head
-    plural = lambda number, noun: f"{number:,} {noun}{'' if number == 1 else 's'}"
-    so = [json.loads(it[3:]) for it in wanted.explain if it.startswith("so ")]
-    assert page.run(READ + "return plain(document.querySelector('h1 + .so'))") == (f"{so[0]} lspcheck" if so else None), (head, so)
+        assert title == f"Bad log {wanted.check[1]}", title
     assert plural(sum(counts), "event") in head, head
     assert f"{plural(counts[0], 'message')} of the editor and {counts[1]:,} of the server" in head, head
     assert f"· {plural(counts[2], 'snapshot')} ·" in head, head
@@ -243,151 +277,13 @@ def who(wanted):
     """The names of both sides, with the first number with a point in their versions."""
     names = [None, None]
     for at, member in ((1, "clientInfo"), (2, "serverInfo")):
-        message = json.loads(wanted.content(at) or b"{}")
+        is_message = wanted.events.get(at, {}).get("kind") in ("request", "result")
+        message = json.loads(wanted.content(at)) if is_message else {}
         found = message.get("params" if at == 1 else "result", {}).get(member)
         if found:
             number = re.search(r"\d+(\.\d+)+", found.get("version", ""))
             names[at - 1] = f"{found['name']} {number[0]}" if number else found["name"]
     return names
-
-
-# What the page says for a line of an explanation: of each word, the label and the text.
-def event_words(words):
-    event, side, number = words[1], words[2], words[3]
-    return f"event {event} (" + (f"snapshot {number})" if side == "snapshot" else f"the {side}’s message {number})")
-
-
-def place(words):
-    return f"line {int(words[0]) + 1}, column {words[1]}"
-
-
-def change_words(words):
-    if words[1] == "whole":
-        return f"change {words[0]} of the message replaces the whole text"
-    start, end = place(words[1:3]), place(words[3:5])
-    return f"change {words[0]} of the message, " + (f"at {start}" if start == end else f"from {start} to {end}")
-
-
-def one_suspect(values):
-    """What is said if one message is suspected."""
-    return "one message made the texts differ, unless a change was never sent" if values[0] == "1" else None
-
-
-def code_words(values):
-    sent, other = ("the end of the text" if it == "end" else it for it in values)
-    return f"by the messages {sent}, in the other text {other}"
-
-
-def units_long(number):
-    return f"{number} unit{'' if number == '1' else 's'} long"
-
-
-def ends_words(values):
-    if values[0] == "converted":
-        sent, other = ({"\n": "LF", "\r\n": "CR LF", "\r": "CR"}[it] for it in values[1:])
-        return f"nothing else differs: each is {sent} by the messages, and {other} in the other text"
-    return "only the one at the very end of the text differs" if values[0] == "last" else "some differ, and nothing else does"
-
-
-LINE_KINDS = {
-    "lf": "LF alone has them",
-    "ecmascript": "ECMAScript has them: by U+2028 and U+2029, too",
-    "python": "splitlines of Python has them",
-}
-
-FAULTS = {
-    "editor": "the editor’s",
-    "server": "the server’s",
-    "recorder": "the recorder’s",
-    "outside": "neither side’s: the session goes beyond what lspcheck follows",
-}
-
-SENTENCES = {
-    "held": ("Held", lambda it: f"version {it[0]}, set by {event_words(it[1:])}"),
-    "sent": ("This message", lambda it: f"sets version {it[0]}"),
-    "same": ("The same", lambda it: f"changes were already made by {event_words(it)}"),
-    "precedes": ("Belongs before", lambda it: f"{event_words(it[1:])}, which sets version {it[0]}"),
-    "saved-as": ("Saved", lambda it: f"under this name by {event_words(it)}"),
-    "version": ("Version", lambda it: f"the snapshot is of version {it[0]}"),
-    "changes": ("Changes", lambda it: f"{it[0]} in this message"),
-    "encoding": ("Columns", lambda it: f"are counted in units of {it[0].upper()}"),
-    "change": ("Edit", change_words),
-    "length": ("That line", lambda it: f"is {units_long(it[0])}, without its line end"),
-    "inside": ("Inside", lambda it: f"the column falls into the character {it[0]}"),
-    "fits": ("It would fit", lambda it: f"if columns were counted in {' or '.join(it).upper()}"),
-    "lines-by": ("It would fit", lambda it: f"if lines ended as {LINE_KINDS[it[0]]}"),
-    "at-once": ("It would fit", lambda it: f"if the ranges of version {it[0]} were all taken in the text before it: {event_words(it[1:])}"),
-    "exchanged": ("It would fit", lambda it: f"if version {it[0]} came after the next one: {event_words(it[1:])}"),
-    "without": ("It would fit", lambda it: f"if version {it[0]} were left out: {event_words(it[1:])}"),
-    "right-from": ("Right from", lambda it: f"version {it[0]} on: the messages after it fit the text of {event_words(it[1:])}"),
-    "offset-encoding": ("The server", lambda it: f"named {it[0].upper()} in the older member offsetEncoding"),
-    "header-ends": ("Its first line", lambda it: f"ends with {it[0].upper()} alone"),
-    "usually": ("Usually", lambda it: f"the fault is {' or '.join(FAULTS[who] for who in it if who != 'or')}"),
-    "at": ("First difference", place),
-    "codes": ("Characters", code_words),
-    "ends": ("Line ends", ends_words),
-    "line-ends": ("Option", lambda it: "--ignore-line-ends: then these texts are the same"),
-    "uri": ("Document", lambda it: f"{it[0].rpartition('/')[2]} {it[0]}"),
-    "equal": ("Last equal", lambda it: f"at version {it[0]}: {event_words(it[1:])}"),
-    "since": ("Since", event_words),
-    "closed": ("Closed", lambda it: f"by {event_words(it)}"),
-    "opened": ("Opened", lambda it: "never"),
-    "answered": ("Answered", lambda it: f"already by {event_words(it)}"),
-    "id": ("Id", lambda it: json.dumps(it[0]) if isinstance(it[0], str) and not it[0].isdigit() else str(it[0])),
-    "sync": ("Agreed", lambda it: f"synchronisation “{it[0]}”"),
-    "picked": ("Picked", lambda it: it[0]),
-    "snapshot": ("Differs from", event_words),
-    "suspects": ("Suspects", one_suspect),
-}
-
-
-def note_words(name, values):
-    """What is said for a note of this name."""
-    if name in MISUSES:
-        return f"{values[0]} {MISUSES[name]}: {event_words(values[1:])}"
-    if name == "past-end":
-        lines = "1 line" if values[3] == "1" else f"{values[3]} lines"
-        what = f"the text has {lines}" if values[2] == "lines" else f"that line is {units_long(values[3])}, without its line end"
-        return f"{event_words(values[4:])} changes a range at {place(values)}, past the end: {what}"
-    if name == "range-length":
-        here = values.index("event")
-        fits = [it.upper() for it in values[4:here]]
-        more = f"; in units of {' or '.join(fits)} it is {values[0]} long" if fits else ""
-        return f"{event_words(values[here:])} has a rangeLength of {values[0]}, and its range is {units_long(values[2])}{more}"
-    if name == "refused":
-        what = f"A request about {values[1]}, which is open, was refused"
-        return f"{what}: {event_words(values[2:])} is the error {values[0]} (InvalidParams)"
-    if name == "similar":
-        return f"{event_words(values[2:])} names {values[0]}, which is not open; {values[1]} is, and is spelled in another way"
-    if name == "late-edits":
-        request, answer, change = (event_words(values[at : at + 4]) for at in (0, 4, 8))
-        return f"{change} makes the edits of {answer} in a text that had changed since {request}"
-    if name == "outside":
-        return f"{event_words(values[2:])} edits a range at {place(values)}, which the text does not have"
-    if name == "overlap":
-        return f"{event_words(values)} has edits that overlap"
-    if name == "unsent":
-        return f"{event_words(values[1:])} names version {values[0]}, which no message has set"
-    return {
-        "exit-without-shutdown": lambda: f"The editor sent exit without shutdown: {event_words(values)}",
-        "offset-encoding": lambda: f"The server names {values[0]} in the older member offsetEncoding: it may count columns in it",
-        "nothing-compared": lambda: "No snapshot was compared: yes says little about the texts",
-        "no-snapshot": lambda: f"{values[0]} was changed, and no snapshot of it was compared",
-    }[name]()
-
-
-MISUSES = {
-    "as-notification": "is a request in LSP 3.17, and was sent as a notification",
-    "as-request": "is a notification in LSP 3.17, and was sent as a request",
-    "by-editor": "is sent only by servers in LSP 3.17, and the editor sent it",
-    "by-server": "is sent only by editors in LSP 3.17, and the server sent it",
-    "renamed": "was renamed, and is still opened or changed under this name",
-}
-
-
-def words_of(line):
-    words = re.findall(r'"(?:[^"\\]|\\.)*"|\S+', line)
-    return words[0], [json.loads(it) if it.startswith('"') else it for it in words[1:]]
 
 
 def says_each_note(page, program, log):
@@ -422,27 +318,45 @@ def explains_each_violation(page, program, log):
         page.open(link=f"#event-{event}")
         facts = page.run(READ + """return [...document.querySelectorAll('.selected .why .facts > dt')]
             .map((it) => [plain(it), plain(it.nextSibling)])""")
+        above = shown_above(page)
         for line in lines[1:]:
             word, values = words_of(line)
             if word in SENTENCES:
                 label, sentence = SENTENCES[word]
                 said = sentence(values)
-                assert said is None or [label, said] in facts, (line, said, facts)
+                assert said is None or [label, said] in facts or is_above(word, values, above), (line, said, facts, above)
             elif word in ("by-messages", "in-editor", "saved", "begins", "similar", "member"):
-                assert any(values[0] in text for _, text in facts), (line, facts)
+                assert any(values[0] in text for _, text in facts) or is_above(word, values, above), (line, facts, above)
         so = [words_of(it)[1][0] for it in lines if it.startswith("so ")]
         first = page.run(READ + "return plain(document.querySelector('.selected .details > .so'))")
         assert first == (f"{so[0]} lspcheck" if so else None), (so, first)
         about = page.run(READ + "return [...document.querySelectorAll('.selected .about-rule dd')].map(plain)")
-        assert about == rule_words(rule), (about, rule_words(rule))
+        cells = rule_words(rule)[: -1 if any(it.startswith("usually ") for it in lines) else None]
+        assert about == cells, (about, cells)
         raw = page.run("const it = document.querySelector('.selected .why .folded'); it.open = true; return 0")
         page.wait("return document.querySelector('.selected .why .raw') !== null")
         raw = page.run(READ + "return plain(document.querySelector('.selected .why .raw'))").split("\n")
         assert raw[1:] == [it for it in lines if not it.startswith(("offences ", "bad log"))][: len(raw) - 1], (raw, lines)
 
 
+def shown_above(page):
+    """What the details of a violation show above its explanation: lines of the texts, characters and
+    encodings in the table of columns."""
+    return page.run(READ + """const texts = (selector) => [...document.querySelectorAll(selector)].map(plain);
+        return { lines: texts('.selected .texts .line-text'), here: texts('.selected .columns-table td.is-here'),
+                 encodings: texts('.selected .columns-table .agreed th') };""")
+
+
+def is_above(word, values, above):
+    """Whether what a line of an explanation says is shown above it."""
+    if word in ("by-messages", "in-editor", "saved"):
+        # Of a long line, the ends.
+        return any(values[0].rstrip("\n")[:300] in it for it in above["lines"])
+    return word == "inside" and values[0] in above["here"] or word == "encoding" and values[0].upper() in above["encodings"]
+
+
 def rule_words(rule):
-    """The cells of the rule's row in RULES, without links and marks."""
+    """The cells of the rule's row in RULES, without links and marks. The last one says whose fault it is."""
     text = (EXAMPLES[0].parent.parent / "docs/RULES.md").read_text()
     rows = [it.split(" | ") for it in re.findall(rf"^\| {rule} \| (.*) \|$", text, re.M)]
     cells = [re.sub(r"\[([^\]]*)\]\([^)]*\)|`([^`]*)`|\*+([^*]+)\*+", lambda it: it[1] or it[2] or it[3], cell.replace(" *(own)*", ""))
@@ -514,101 +428,20 @@ def shows_the_columns(page, program, log):
     page.open()
     rows = page.run(READ + "return [...document.querySelectorAll('.first .columns-table tr')].map((it) => [...it.children].map(plain))")
     assert rows[0][1:] == [it.replace("\t", "\t") for it in characters], (rows[0], characters)
-    at, columns = 0, []
+    at, columns = 1, []
     for character in characters:
         columns.append(str(at))
         at += len(character.encode("utf-16-le")) // 2
     assert ["UTF-16", *columns] in rows, (rows, columns)
     said = page.text(".first .line-columns")
     assert f"Line {change['line'] + 1} before this change" in said, said
-    assert f"line {change['line']}, counted from 0, and column {change['character']}, in utf-16" in said, said
+    assert f"line {change['line']} and character {change['character']}, in utf-16" in said, said
     here = page.run(READ + "return [...document.querySelectorAll('.first td.is-here')].map(plain)")
-    inside = max(it for it in range(len(columns)) if int(columns[it]) <= change["character"])
+    inside = max(it for it in range(len(columns)) if int(columns[it]) <= change["character"] + 1)
     assert here[0] == characters[inside] and here[1] == columns[inside], here
-
-
-def shows_documents(page, program, log):
-    """The chips of each document: its versions and snapshots in order, and how many are left out."""
-    wanted = Expected(program, log)
-    page.open()
-    parts = page.run(READ + """return [...document.querySelectorAll('.document')].map((it) => [
-        plain(it.querySelector('.uri .shown-text')), [...it.querySelectorAll('.chips > *')].map((chip) =>
-        [plain(chip), chip.getAttribute('href')])])""")
-    assert parts
-    for uri, chips in parts:
-        events = [it for it in wanted.events.values() if it.get("uri") == uri]
-        named = [it for it in events if it["kind"] == "snapshot" or
-                 re.search("/did(Open|Change|Close|Save)$", it.get("method", ""))]
-        at = 0
-        for label, link in chips:
-            if link is None:
-                at += int(re.fullmatch(r"… ([\d,]+) …", label)[1].replace(",", ""))
-                continue
-            event = named[at]
-            assert link == f"#event-{event['event']}", (link, event)
-            if "version" in event:
-                snapshot = f"▣ {event['version']}"
-                short = {"didOpen": "open ", "didClose": "close", "didSave": "save"}
-                name = event.get("method", "").rpartition("/")[2]
-                assert label == (snapshot if event["kind"] == "snapshot" else f"{short.get(name, '')}{event['version']}"), (label, event)
-            at += 1
-        assert at == len(named), (at, len(named), uri)
-
-
-def compares_versions(page, program, log):
-    """Two versions of a document: the texts that `text` writes, or that of a snapshot."""
-    wanted = Expected(program, log)
-    found = next(iter(it["uri"] for it in wanted.events.values() if it.get("method") == TEXTS[0]))
-    versions = [it for it in wanted.versions(found) if "rule" not in it and it.get("method") != TEXTS[2]]
-    page.open()
-    page.run("[...document.querySelectorAll('.document .folded')].forEach((it) => { it.open = true; })")
-    page.wait("return document.querySelector('.document .versions') !== null")
-    labels = page.run("return [...document.querySelector('.version-choice').options].map((it) => it.text)")
-    assert labels == [version_label(it) for it in wanted.versions(found)], labels
-    chosen = page.run("return [...document.querySelectorAll('.document .version-choice')].slice(0, 2).map((it) => it.value)")
-    assert chosen == labels[-2:], (chosen, labels[-2:])
-    for one, other in ((versions[0], versions[-1]), (versions[-1], versions[-2])):
-        for at, event in enumerate((one, other)):
-            choice = page.all(".document .version-choice")[at]
-            page.run("arguments[0].selectedIndex = arguments[1]; arguments[0].dispatchEvent(new Event('change'))",
-                     choice, labels.index(version_label(event)))
-        texts = []
-        for event in (one, other):
-            words = ("event", event["event"]) if event["kind"] == "snapshot" else ("text", "--all", event["number"], found)
-            texts.append(output(program, *words, log).decode())
-        if texts[0] != texts[1]:
-            check_comparison(page, ".document .version-result", *texts)
-        else:
-            assert "Both texts are equal" in page.text(".version-result"), (one, other, page.text(".version-result"))
-
-
-def shows_commands_that_work(page, program, log, folder):
-    """What is shown to be copied into a shell writes what the page says, and does nothing else."""
-    wanted = Expected(program, log)
-    (folder / "bin").mkdir(exist_ok=True)
-    link = folder / "bin/lspcheck"
-    if not link.exists():
-        link.symlink_to(program)
-    before = sorted(it.name for it in log.parent.iterdir())
-    tried = 0
-    for event in wanted.events.values():
-        if "uri" not in event or event["kind"] == "snapshot" and tried > 8 or tried > 20:
-            continue
-        page.open(link=f"#event-{event['event']}")
-        if not page.run("const it = [...document.querySelectorAll('.selected .folded')].find((it) => "
-                        "it.innerText.startsWith('The text after')); if (it) it.open = true; return !!it"):
-            continue
-        page.wait("return document.querySelector('.selected .folded .quiet') !== null")
-        command = page.text(".selected .command")
-        shown = page.run(READ + "return plain(document.querySelector('.selected .folded .document-text'))")
-        if command is None or shown is None:
-            continue
-        search = {"PATH": f"{folder}/bin:/usr/bin:/bin"}
-        done = subprocess.run(["bash", "-c", command], cwd=log.parent, env=search, capture_output=True)
-        assert done.returncode == 0 and done.stdout.decode() == shown, (command, done, shown)
-        tried += 1
-    assert tried, "no command was tried"
-    assert sorted(it.name for it in log.parent.iterdir()) == before
+    is_between = int(columns[inside]) != change["character"] + 1
+    assert here[-1] == f"▲ {change['character'] + 1}{' inside' if is_between else ''}", here
+    assert bool(page.all(".first .positions .is-inside")) == is_between, here
 
 
 def tests_of(window, program, place):
@@ -620,13 +453,5 @@ def tests_of(window, program, place):
         rule = lines_of(program, "check", log)[0].split()[1:2]
         found += [shows_both_texts] if rule in (["608"], ["702"]) else []
         found += [shows_the_columns] if rule == ["605"] else []
-        if log.name in ("clangd-session.log", "wrong-column.log", "differs.log"):
-            found += [shows_documents, compares_versions]
         for test in found:
             yield f"{test.__name__} {log.name}", lambda test=test, page=page, log=log: test(page, program, log)
-    folder = place / "shell"
-    folder.mkdir()
-    odd = folder / "-it's; touch x\x1b.log"
-    odd.write_bytes(logs.unquoted())
-    page = window(odd)
-    yield "shows_commands_that_work", lambda: shows_commands_that_work(page, program, odd, place)

@@ -98,6 +98,7 @@ class Page:
 def make(program, place, log, *words):
     """The page of a log."""
     target = place / f"{log.name}{''.join(words)}.html"
-    done = run(log, "--program", program, "-o", target, *words)
+    # Without its smallest log, which takes time, unless that is asked for.
+    done = run(log, "--program", program, "-o", target, "--shrink", "0", *words)
     assert done.returncode == 0, done.stderr
     return target

@@ -176,7 +176,7 @@ def try_judge(trial):
         run = subprocess.run(["sh", "judge.sh"], cwd=place, env=search, capture_output=True, text=True, timeout=SECONDS)
         good = run.returncode == status and words in run.stdout and (status > 0 or run.stdout == words)
         trial.note(f"judge.sh: {what}", good, run)
-        wanted = [*pages, "index.html"] if pages else []
+        wanted = sorted([*pages, "index.html"]) if pages else []
         trial.note(f"judge.sh: {what}: pages", sorted(it.name for it in place.glob("pages/*")) == wanted, run)
         told = (place / "summary.md").read_text() if pages else ""
         trial.note(f"judge.sh: {what}: summary", summary in told and (place / "summary.md").exists() == bool(pages), told)

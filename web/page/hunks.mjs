@@ -42,7 +42,8 @@ function lengthsOfDifference(some, other, at, place) {
   return [Math.min(half, some.length - at), Math.min(half, other.length - place)];
 }
 
-/** Both lists of lines in turn: equal runs and null, and those that differ; whether it is the last. */
+/** Both lists of lines in turn: equal runs and null, and those that differ; and whether it is the
+ * last one. */
 function* runs(some, other) {
   let at = 0, place = 0;
   while (true) {

@@ -121,13 +121,20 @@ class Markdown {
     return table ? [this.say("columns", { line: table[0] }), "", ...block("", table[1])] : [];
   }
 
+  /** The end of a message from its changes on. */
+  changesIn(content) {
+    const text = Array.from(content, (it) => String.fromCharCode(it)).join("");
+    const start = Math.max(text.indexOf('"contentChanges"'), 0);
+    return (start ? "…" : "") + this.shown(content.subarray(start), MOST_OF_SUSPECT);
+  }
+
   suspects() {
     const found = this.said.filter((it) => it.is === "suspect"), lines = [];
     for (const it of found.slice(0, MOST_SUSPECTS)) {
       lines.push(...this.linesOf([it]));
       const content = this.kept.get(it.event);
       if (content?.length) {
-        lines.push(`  ${this.shown(content, MOST_OF_SUSPECT)}`);
+        lines.push(`  ${this.changesIn(content)}`);
       }
     }
     const rest = found.length - MOST_SUSPECTS;
