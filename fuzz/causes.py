@@ -1,16 +1,21 @@
 """Which wrong store explains what a server answers: fresh documents are given the texts that each
 store would hold, and asked the same."""
 
+import math
+import time
 from dataclasses import dataclass, replace
 
-from cases import LINE_END, Editor, text_before
+from cases import LINE_END, Case, Edit, Editor, Step, text_before
 from features import SEPARATORS
 from live import unlike
 from messages import changed
+from questions import SELECTION, SYMBOLS
 from stores import ANYTHING, KINDS, held
 
-# How many texts are tried of each kind of stores.
-MOST_TEXTS = 24
+# How many texts are tried of each kind of stores, and how long one is that is typed.
+MOST_TEXTS, MOST_TYPED = 24, 200
+# How the documents of a case are called where no server gets it.
+NAMES = ("file:///one", "file:///two")
 CRASH = "server ends"
 
 
@@ -26,16 +31,20 @@ class Cause:
 
 class Explaining:
     """The search for the store that explains a case, in a server that runs. If the server takes a
-    didOpen in a wrong way, the texts are given by changes."""
+    didOpen in a wrong way, the texts are given by changes. After the moment `end` no store is
+    tried, and none explains the case."""
 
-    def __init__(self, live, by_change=False):
-        self.live, self.by_change = live, by_change
+    def __init__(self, live, by_change=False, end=math.inf):
+        self.live, self.by_change, self.end = live, by_change, end
+
+    def is_over(self):
+        return time.monotonic() > self.end
 
     def cause(self, case, whole):
         """The cause of a case that was cut down from a whole one. What explains it is told apart by
         other cases."""
         found = self.stores_for(case)
-        for other in (whole, wide(case)):
+        for other in (whole, wide(case), further(case)):
             if len(names_of(found)) > 1 and other != case:
                 found = self.explaining(other, found) or found
         names = names_of(found)
@@ -45,54 +54,83 @@ class Explaining:
 
     def stores_for(self, case):
         """The stores of the first kind that explain a case and, unless they explain anything, what
-        the server answers in plainer ones."""
+        the server answers in plainer ones, and about the right text."""
+        others = [*plainer_cases(case), self.control(case)]
         for kind in KINDS:
             found = self.explaining(case, kind)
-            for other in plainer_cases(case) if kind is not ANYTHING else ():
+            for other in others if kind is not ANYTHING else ():
                 found = found and self.explaining(other, found, True)
             if found:
                 return found
         return []
 
+    def control(self, case):
+        """The case of a document that is given the right text at once."""
+        return Case((text_before(case, None),), (), self.by_change)
+
     def explaining(self, case, stores, may_be_right=False):
         """The stores with which a document would answer as the server does. Unless they may be
-        right, they hold a wrong text."""
-        texts = self.texts_of(case, stores, may_be_right)
-        if not texts:
+        right, they hold a wrong text, or would if the right one were given at once."""
+        ways = {} if self.is_over() else self.ways_of(case, stores, may_be_right)
+        if not ways:
             return []
         answers, = self.live.answers([self.live.play(case)])
+        # These are asked for at the ends of lines, and the texts have other lines.
+        answers.pop((SELECTION, False), None)
         found = []
-        for held_texts in list(texts)[:MOST_TEXTS]:
-            if not unlike(answers, self.answers_to(held_texts)):
-                found += texts[held_texts]
+        for way in list(ways)[:MOST_TEXTS]:
+            if self.is_over():
+                return []
+            if self.is_same(answers, way):
+                found += ways[way]
         return sorted(found, key=stores.index)
 
-    def texts_of(self, case, stores, may_be_right):
-        """The texts that stores would hold, before the lines are overwritten and after, each with
-        its stores."""
-        encoding = self.live.greeting.encoding
-        uris = [f"file:///{it}" for it in range(len(case.texts))]
-        sent = list(Editor(self.live.language.name, encoding).messages(case, uris))
-        document = self.live.told(uris[0], text_before(case, None))
-        contents, found = [it.content for it in sent], {}
+    def ways_of(self, case, stores, may_be_right):
+        """How a document gets the texts that stores would hold, before the lines are overwritten
+        and after, each with its stores."""
+        document = self.live.told(NAMES[0], text_before(case, None))
+        right, found = (document.text, document.overwriting.text), {}
         more = [changed(document.uri, 0, it) for it in document.messages]
+        scripts = [self.contents(it) for it in (case, self.control(case))]
         for store in stores:
-            texts = held(store, contents, encoding, document.uri, more)
-            if may_be_right or texts != (document.text, document.overwriting.text):
-                found.setdefault(texts, []).append(store)
+            texts, others = (self.held(store, it, more) for it in scripts)
+            if may_be_right or right != texts or right != others:
+                way = tuple(self.way_to(store, it) for it in texts)
+                found.setdefault(way, []).append(store)
         return found
 
-    def answers_to(self, texts):
-        """What is answered where a document has these texts, or none, before the lines are
-        overwritten and after."""
-        before, after = map(self.answers_to_text, texts)
+    def contents(self, case):
+        """The messages of a case."""
+        editor = Editor(self.live.language.name, self.live.greeting.encoding)
+        return [it.content for it in editor.messages(case, NAMES)]
+
+    def held(self, store, contents, more=()):
+        return held(store, contents, self.live.greeting.encoding, NAMES[0], more)
+
+    def way_to(self, store, text):
+        """The case that gives a document a text in a server with this store: at once or, if the
+        store would change it, typed; None if there is no text."""
+        if text is None:
+            return None
+        at_once = Case((text,), (), self.by_change)
+        if not store.changes_texts or len(text) > MOST_TYPED:
+            return at_once
+        cases = (at_once, typed(text))
+        found = (it for it in cases if self.held(store, self.contents(it))[0] == text)
+        return next(found, at_once)
+
+    def is_same(self, answers, way):
+        """Whether a document that gets its text in this way is answered the same. The symbols are
+        asked first: they tell most texts apart, and other answers may take long."""
+        asked = ([(SYMBOLS, False)], None)
+        return all(not unlike(answers, self.answers_about(way, it)) for it in asked)
+
+    def answers_about(self, way, only):
+        """What is answered about a document before its lines are overwritten, and after: two cases
+        that give it the text, or None if it has none."""
+        before, after = (self.live.answers_about(it, only) for it in way)
         late = {(method, True): answer for (method, _), answer in after.items()}
         return {**before, **late}
-
-    def answers_to_text(self, text):
-        if text is None:
-            return self.live.answers_without_text()
-        return self.live.answers_to_text(text, self.by_change)
 
     def separators(self, case, name):
         """Each character that ends a line, if the one in this case does."""
@@ -103,6 +141,11 @@ class Explaining:
 
         found = [SEPARATORS[it] for it in SEPARATORS if it == own or ends(it)]
         return f"{', '.join(found)} {'end' if found[1:] else 'ends'} a line"
+
+
+def typed(text):
+    """The case in which a text is typed, the last character first."""
+    return Case(("",), tuple(Step(0, (Edit(0, 0, it),)) for it in reversed(text)))
 
 
 SEPARATING = {f"{name} ends a line": it for it, name in SEPARATORS.items()}
@@ -124,13 +167,25 @@ def in_lines(text):
     return LINE_END.sub("\n", text)
 
 
+def placed(case, change):
+    """A case whose edits are changed."""
+    steps = tuple(replace(it, edits=tuple(map(change, it.edits))) for it in case.steps)
+    return replace(case, steps=steps)
+
+
 def within_lines(case):
     """A case none of whose positions is past an end."""
-    steps = tuple(
-        replace(it, edits=tuple(replace(edit, past=0, lines=0) for edit in it.edits))
-        for it in case.steps
-    )
-    return replace(case, steps=steps)
+    return placed(case, lambda it: replace(it, past=0, lines=0))
+
+
+def further(case):
+    """A case whose columns are further past the ends of their lines, and whose first text has a
+    line more."""
+    text = case.texts[0]
+    end = (LINE_END.findall(text) or ["\n"])[-1]
+    text += (end if text and not text.endswith(end) else "") + f"further on{end}"
+    wider_case = replace(case, texts=(text, *case.texts[1:]))
+    return placed(wider_case, lambda it: replace(it, past=2 * it.past))
 
 
 def one_by_one(case):
@@ -149,14 +204,11 @@ def wide(case):
     def moved(at):
         return None if at is None else at + wider * sum(end < at for end in ends)
 
-    steps = tuple(
-        replace(it, edits=tuple(
-            replace(edit, start=moved(edit.start), end=moved(edit.end)) for edit in it.edits
-        ))
-        for it in case.steps
-    )
     text = LINE_END.sub(lambda end: "x" * wider + end[0], text)
-    wider_case = replace(case, texts=(text, *case.texts[1:]), steps=steps)
+    wider_case = placed(
+        replace(case, texts=(text, *case.texts[1:])),
+        lambda it: replace(it, start=moved(it.start), end=moved(it.end)),
+    )
     return wider_case.mapped(lambda it: "".join(it if it.isascii() else "😀" for it in it))
 
 

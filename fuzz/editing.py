@@ -3,7 +3,7 @@
 import random
 
 from cases import LINE_END, Case, Edit, Step, outside_of_line_end
-from features import ASTRAL, COMBINING, SEPARATORS
+from features import ASTRAL, COMBINING, SEPARATORS, feature_with
 
 WORDS = ["x", "ab", "a1", "name", "z_9", "f(x)", "(", ")", "{ }", '"s"', "// c", "# c", "1 + 2"]
 WORDS += [" ", "  ", "\t", ";"]
@@ -51,12 +51,23 @@ class Texts:
         if "long" in self.features:
             at = self.chance.randrange(len(lines))
             lines[at] = (self.word() + " y").ljust(3) * (self.chance.choice(LONG_LINES) // 3)
-        text = "".join(line + self.end() for line in lines)
-        return self.ended(text) if "no-last-end" in self.features else text
+        return self.ended(lines)
 
-    def ended(self, text):
-        """The text, perhaps without its last line end."""
-        return text.rstrip("\r\n") if self.chance.random() < 0.7 else text
+    def given(self, text):
+        """A text of the user, with the line ends of these features, and an x for each character
+        that only other features have."""
+        lines = LINE_END.split(text)
+        return self.ended(map(self.allowed, lines if lines[-1] else lines[:-1]))
+
+    def allowed(self, line):
+        kinds = {None, *self.features}
+        return "".join(it if feature_with(it) in kinds else "x" for it in line)
+
+    def ended(self, lines):
+        """Lines with their ends; perhaps the last one has none."""
+        text = "".join(line + self.end() for line in lines)
+        is_open = "no-last-end" in self.features and self.chance.random() < 0.7
+        return text.rstrip("\r\n") if is_open else text
 
 
 def ends_of(chance, features):
@@ -67,8 +78,8 @@ def ends_of(chance, features):
     return [chance.choice(kinds)] if kinds else ["\n"]
 
 
-class Random:
-    """A random session. The same seed and features give the same."""
+class CaseGenerator:
+    """Makes a random session. The same seed and features give the same."""
 
     def __init__(self, seed, features, form, start=None, has_ranges=True):
         self.chance, self.features = random.Random(seed), features
@@ -81,11 +92,8 @@ class Random:
         return feature in self.features and self.chance.random() < probability
 
     def text(self):
-        """The text that a document begins with, of which the first line end is one of this
-        session."""
-        if self.start is None:
-            return self.made.text()
-        return "".join(line + self.made.end() for line in LINE_END.split(self.start))
+        """The text that a document begins with."""
+        return self.made.text() if self.start is None else self.made.given(self.start)
 
     def case(self):
         texts = [self.text() for _ in range(2 if "two" in self.features else 1)]

@@ -19,6 +19,15 @@ COMBINING = ["é", "e\u0301", "नि", "ü", "\u0301"]
 LONG = 250
 
 
+def feature_with(character):
+    """The feature whose sessions alone have a character, or None."""
+    if character in SEPARATORS:
+        return "separators"
+    if character > "\uffff":
+        return "astral"
+    return None if character.isascii() else "combining"
+
+
 class Traits:
     """What a case has: the texts of its first document, and its steps and edits."""
 

@@ -87,12 +87,12 @@ class Greeting:
     """What a server and an editor say first, and agree on: the log of that, and of sessions that
     begin with it."""
 
-    def __init__(self, workshop, encodings):
-        self.workshop = workshop
-        asked = request(1, "initialize", greeting(workshop.root, encodings))
-        answer = workshop.first_answer(asked)
+    def __init__(self, target, encodings):
+        self.target = target
+        asked = request(1, "initialize", greeting(target.root, encodings))
+        answer = target.first_answer(asked)
         if "error" in answer:
-            raise Fault(f"{workshop.name} answers initialize with {error_of(answer)}")
+            raise Fault(f"{target.name} answers initialize with {error_of(answer)}")
         self.encoding = encoding_of(answer)
         greeted = notification("initialized", {})
         first = [(EDITOR, asked), (SERVER, encoded(answer)), (EDITOR, greeted)]
@@ -112,7 +112,7 @@ class Greeting:
 
     def setting_of(self, sent):
         """What replays a session with these messages."""
-        return self.workshop.setting_of(self.log(sent))
+        return self.target.setting_of(self.log(sent))
 
     def log(self, sent):
         """The log of a session with these messages, each with a snapshot of the text that it
@@ -131,9 +131,9 @@ def snapshot(uri, version, text):
     return Record(SNAPSHOT, text.encode("utf-8", "replace"), version, uri.encode()).encoded()
 
 
-class Workshop:
-    """What all sessions with a server have in common: its command, how long it may take, and the
-    folder for their files."""
+class Target:
+    """The server that is tested: its command, how long it may take, and the folder for the files of
+    its sessions."""
 
     def __init__(self, program, command, root, folders, folder, wait, jobs):
         self.program, self.command, self.root, self.folders = program, command, root, folders
@@ -188,10 +188,11 @@ class Workshop:
 
 
 class Journal:
-    """The log of all that a server is sent and answers, which is written as it goes."""
+    """The log of all that a server is sent and answers, which is written as it goes. It is used as
+    a context, which removes it."""
 
-    def __init__(self, workshop):
-        self.workshop, self.path = workshop, workshop.file(b"")
+    def __init__(self, target):
+        self.target, self.path = target, target.file(b"")
         self.file = open(self.path, "r+b")
         self.tape = Tape(self.file)
 
@@ -199,11 +200,26 @@ class Journal:
         """Notes the right text of a document."""
         self.tape.write([snapshot(uri, version, text)])
 
-    def close(self):
+    def size(self):
+        return os.path.getsize(self.path)
+
+    def verdict(self):
         """Ends the log: what lspcheck says about it."""
-        self.file.close()
+        self.end()
         if self.tape.error:
             raise Failed(f"{self.path}: {self.tape.error.strerror}", 3)
-        verdict = self.workshop.verdict(self.path)
+        return self.target.verdict(self.path)
+
+    def __enter__(self):
+        return self
+
+    def __exit__(self, *_):
+        self.end()
         os.unlink(self.path)
-        return verdict
+
+    def end(self):
+        """Closes the file. What it could not take is the fault of the log."""
+        try:
+            self.file.close()
+        except OSError as error:
+            self.tape.error = self.tape.error or error

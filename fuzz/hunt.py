@@ -9,21 +9,22 @@ from causes import CRASH, Cause, Explaining
 from children import Fault
 from comparison import Comparison
 from confirming import Confirming, Shown
-from editing import Random
+from editing import CaseGenerator
 from features import OPENING, PLAIN, features_of
 from greeting import Greeting
 from languages import forms_of
 from live import Live
-from planning import Plan
 from program import Failed
 from questions import SYMBOLS
 from recording import Document
 from servers import Ended
 from shrinking import Shrinking
 
-# How many cases are played in one server; how often servers may fail one after the other; how many
+# How often servers may fail one after the other, and how many of these failures are told; how many
 # cases are tried to cut down what ends a server, each in a new one.
-MOST_PLAYS, MOST_FAULTS, MOST_ENDED = 600, 3, 30
+MOST_FAULTS, MOST_TOLD, MOST_ENDED = 3, 5, 30
+# For how many seconds a case is cut down, and for how many its cause is looked for, at most.
+CUTTING, EXPLAINING = 300, 300
 # How often fresh servers are shown what they did not show.
 MOST_UNCONFIRMED = 2
 # What is asked again before a difference is looked into, after this many seconds.
@@ -31,8 +32,7 @@ AGAIN = (0.05, 0.3)
 # The other encodings that are offered first.
 OFFERED = (["utf-8", "utf-16"], ["utf-32", "utf-16"])
 UTF_16 = "utf-16"
-UNSTEADY = "the server answers otherwise each time"
-NO_QUESTIONS = "the server offers none of the questions that the text alone answers"
+TOO_DEEP = "a value that the server sends is nested too deep"
 
 
 @dataclass(frozen=True)
@@ -59,14 +59,13 @@ def form_in(greeting, language):
 class Hunt:
     """Sends sessions of random edits to a server, and looks into what differs."""
 
-    def __init__(self, workshop, language, seed, features, start=None):
-        self.workshop, self.language = workshop, language
-        self.seed, self.start, self.plan = seed, start, Plan(seed, features)
+    def __init__(self, target, language, schedule, start=None):
+        self.target, self.language, self.schedule, self.start = target, language, schedule, start
         # The drifts, what is known of each, and what fresh servers did not show, with how often.
         self.found, self.known, self.unconfirmed = [], set(), Counter()
         self.sessions = self.edits = self.questions = self.faults = 0
-        # How the server failed otherwise than by a drift.
-        self.failures = []
+        # How often the server failed otherwise than by a drift, and how it first did.
+        self.failed, self.failures = 0, []
         # The verdict about a rule that the server itself breaks.
         self.verdict = None
         # The smallest case so far of what is looked into, and who can write its log.
@@ -79,10 +78,10 @@ class Hunt:
     def run(self, seconds, note, note_progress):
         """Hunts for some seconds, and notes each drift."""
         end = time.monotonic() + seconds
-        self.greetings[UTF_16] = first = Greeting(self.workshop, [UTF_16])
+        self.greetings[UTF_16] = first = Greeting(self.target, [UTF_16])
         self.form = form_in(first, self.language)
         try:
-            while time.monotonic() < end and not self.plan.is_over():
+            while time.monotonic() < end and not self.schedule.is_over():
                 self.attempt(note)
                 note_progress()
         except BaseException as why:
@@ -95,13 +94,20 @@ class Hunt:
         try:
             self.session(note)
             self.faults = 0
+        except RecursionError:
+            self.note_failure(Fault(TOO_DEEP))
         except Fault as why:
-            self.stop(why)
-            self.best = None
-            self.faults += 1
-            self.failures.append(str(why))
-            if self.faults >= MOST_FAULTS:
-                raise Failed(str(why), 2) from why
+            self.note_failure(why)
+
+    def note_failure(self, why):
+        """Ends a server that has failed, and the hunt if the last ones have, too."""
+        self.stop(why)
+        self.best = None
+        self.faults += 1
+        self.failed += 1
+        self.failures = [*self.failures, str(why)][:MOST_TOLD]
+        if self.faults >= MOST_FAULTS:
+            raise Failed(str(why), 2) from why
 
     def stop(self, why=None):
         """Ends the server, and checks the log of its sessions, unless it has failed."""
@@ -114,15 +120,16 @@ class Hunt:
             self.verdict = live.verdict
 
     def session(self, note):
-        features = self.plan.next()
+        features = self.schedule.next()
         greeting = self.greeting_for(features)
         if greeting is None:
             return
         self.sessions += 1
-        number, seed = self.sessions, f"{self.seed} session {self.sessions}"
-        case = Random(seed, features, self.form, self.start, greeting.takes_ranges).case()
-        # The right text comes in a didOpen or in a change, in turns; and some servers get the time
-        # to work on each message.
+        number, seed = self.sessions, f"{self.schedule.seed} session {self.sessions}"
+        made = CaseGenerator(seed, features, self.form, self.start, greeting.takes_ranges)
+        case = made.case()
+        # The right text comes in a didOpen or in a change, in turns; and in some sessions the
+        # server gets the time to work on each message.
         by_change = number % 2 == 1 and self.is_change_right
         is_slow = number % 5 == 4 and "bursts" not in features
         live = self.live_with(greeting)
@@ -142,24 +149,24 @@ class Hunt:
             return self.greetings[UTF_16]
         others = [it for it in self.greetings if it != UTF_16]
         if not others:
-            made = [Greeting(self.workshop, it) for it in OFFERED]
+            made = [Greeting(self.target, it) for it in OFFERED]
             self.greetings.update((it.encoding, it) for it in made if it.encoding != UTF_16)
             others = [it for it in self.greetings if it != UTF_16]
         if not others:
-            self.plan.leave_out("encodings")
+            self.schedule.leave_out("encodings")
             return None
         return self.greetings[others[self.sessions % len(others)]]
 
     def live_with(self, greeting):
         """The server that runs, or a new one."""
-        if self.live and (self.live.greeting is not greeting or self.live.plays > MOST_PLAYS):
+        if self.live and (self.live.greeting is not greeting or self.live.is_old()):
             self.stop()
         if self.live is None:
             live = Live(greeting, self.language, self.form, self.is_one_by_one)
             self.live = live.__enter__()
-            text = Random(self.seed, PLAIN, self.form, self.start).text()
-            if not live.calibrate(text):
-                raise Failed(UNSTEADY if live.unsteady else NO_QUESTIONS, 2)
+            text = CaseGenerator(self.schedule.seed, PLAIN, self.form, self.start).text()
+            if why := live.calibrate(text):
+                raise Failed(why, 2)
             self.is_one_by_one = live.is_one_by_one
         return self.live
 
@@ -173,10 +180,11 @@ class Hunt:
             whole, by_change, differing = at_fault, not at_fault.by_change, None
         # The names see most, so that no more need be asked.
         only = [it for it in differing or () if it == (SYMBOLS, True)] or differing
-        is_shown = lambda it: live.differing(it, by_change, only=only)  # noqa: E731
-        case = self.cut_down(whole, is_shown, confirming)
+        case = self.cut_down(
+            whole, lambda it: live.differing(it, by_change, only=only), confirming
+        )
         feature, way = self.feature_of(case, greeting), bool(at_fault) and by_change
-        cause = Explaining(live, way).cause(case, whole)
+        cause = Explaining(live, way, time.monotonic() + EXPLAINING).cause(case, whole)
         drift = feature, cause
         if drift not in self.known and self.unconfirmed[drift] < MOST_UNCONFIRMED:
             shown = confirming.shown(case) or (case != whole and confirming.shown(whole))
@@ -192,7 +200,7 @@ class Hunt:
             self.best = confirming, case
 
         keep(whole)
-        return Shrinking(whole, is_shown, keep, **limits).smallest()
+        return Shrinking(whole, is_shown, keep, time.monotonic() + CUTTING, **limits).smallest()
 
     def look_into_end(self, greeting, whole, number, note):
         """The same with a case that ends the server."""
@@ -221,6 +229,6 @@ class Hunt:
         self.is_change_right = self.is_change_right and not found.shown.case.by_change
         self.known.add((found.feature, found.cause))
         is_everywhere = found.feature in (*PLAIN, OPENING)
-        for feature in list(self.plan.chosen) if is_everywhere else [found.feature]:
-            self.plan.leave_out(feature)
+        for feature in list(self.schedule.chosen) if is_everywhere else [found.feature]:
+            self.schedule.leave_out(feature)
         note(found)

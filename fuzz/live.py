@@ -8,12 +8,20 @@ from dataclasses import dataclass
 from asking import Asking, Plan, Told
 from cases import Case, Editor, Sent
 from comparison import CHANGED, OPENED, at_fault
-from drive import Run
+from drive import Run, error_of
 from greeting import Journal
-from messages import key_of, member, notification, request
+from messages import member, notification
 from overwriting import overwriting
-from questions import SYMBOLS, Key, compared, names_of, params_of
+from questions import SYMBOLS, Key, compared, names_of, params_of, passes
 
+# How many cases are played in one server, and how many bytes the log of that has, roughly.
+MOST_PLAYS, MOST_LOG = 600, 1 << 28
+# After how many seconds a question is asked again that was answered with an error that passes.
+PASSING = (0.05, 0.2, 1)
+# Why a server shows nothing.
+UNSTEADY = "the server answers otherwise each time"
+ERRORS = "the server answers each question with an error"
+NO_QUESTIONS = "the server offers none of the questions that the text alone answers"
 # The same answers, whichever document they are about.
 ANY = "file:///document"
 
@@ -52,25 +60,31 @@ class Live:
         self.greeting, self.language, self.form = greeting, language, form
         self.is_one_by_one = is_one_by_one
         self.editor = Editor(language.name, greeting.encoding)
-        self.journal, self.run = Journal(greeting.workshop), None
+        self.journal, self.run = Journal(greeting.target), None
         self.opened = self.plays = self.asked = 0
         # The questions whose answers say nothing, since they differ where the texts are the same.
         self.unsteady = set()
         self.verdict = None
 
     def __enter__(self):
-        self.run = Run(self.greeting.setting, self.journal.tape)
         try:
+            self.run = Run(self.greeting.setting, self.journal.tape)
             self.run.begin(len(self.greeting.setting.recording.messages), [])
-        except BaseException:
-            self.run.__exit__()
+        except BaseException as why:
+            self.__exit__(type(why))
             raise
         return self
 
     def __exit__(self, kind, *_):
-        self.run.__exit__()
-        if kind is None:
-            self.verdict = self.journal.close()
+        with self.journal:
+            if self.run:
+                self.run.__exit__()
+            if kind is None:
+                self.verdict = self.journal.verdict()
+
+    def is_old(self):
+        """Whether a new server should be started instead."""
+        return self.plays > MOST_PLAYS or self.journal.size() > MOST_LOG
 
     def uri(self):
         """The name of a new document."""
@@ -123,27 +137,30 @@ class Live:
 
     def hear(self, found, documents, keys, pauses=()):
         """Asks all questions at once, and once more after each pause."""
-        told, server = {it.uri: it for it in documents}, self.run.server
+        told = {it.uri: it for it in documents}
         for pause in (0, *pauses) if keys else ():
             time.sleep(pause)
-            ids = [key_of(next(server.ids)) for _ in keys]
+            ids = [self.put(key, told[key.uri]) for key in keys]
             for id, key in zip(ids, keys):
-                document = told[key.uri]
-                text = document.overwriting.text if key.is_overwritten else document.text
-                params = params_of(key.method, key.uri, text, self.greeting.encoding)
-                server.ask(id, request(int(id), key.method, params), True)
-            for id, key in zip(ids, keys):
-                answer = without_uri(self.answer(id, key), key.uri)
-                found[key.uri][key.method, key.is_overwritten] = answer
+                answer = self.lasting_answer(id, key, told[key.uri])
+                found[key.uri][key.method, key.is_overwritten] = without_uri(answer, key.uri)
         self.asked += len(keys)
 
-    def answer(self, id, key):
-        """The answer to a question."""
-        answer = self.run.server.wait(id, self.run.setting.wait)
-        if answer is None:
-            self.run.check()
-            raise self.run.timed_out(f'the question "{key.method}"')
+    def lasting_answer(self, id, key, document):
+        """The answer to a question, which is asked again as long as it is an error that passes."""
+        answer = self.run.answer(id, key.method)
+        for pause in PASSING:
+            if not passes(answer):
+                break
+            time.sleep(pause)
+            answer = self.run.answer(self.put(key, document), key.method)
         return answer
+
+    def put(self, key, document):
+        """Sends a question: its id, as JSON text."""
+        text = document.overwriting.text if key.is_overwritten else document.text
+        params = params_of(key.method, key.uri, text, self.greeting.encoding)
+        return self.run.put(key.method, params)
 
     def is_asked(self, key, only):
         question = key.method, key.is_overwritten
@@ -175,7 +192,7 @@ class Live:
 
     def calibrate(self, text):
         """Finds the questions that say nothing, and whether each change that overwrites must be a
-        message for the names to show. Whether any question is left."""
+        message for the names to show. Why no question is left, or None."""
         documents = [self.play(Case((text,))) for _ in range(2)]
         one, other = self.answers(documents, (0.05, 0.2))
         self.unsteady |= set(unlike(one, other))
@@ -183,23 +200,30 @@ class Live:
             self.is_one_by_one = True
             again = self.play(Case((text,)))
             self.is_one_by_one = self.shows_names(again, self.answers([again])[0])
-        return [key for key in one if key not in self.unsteady and compared(one[key]) is not None]
+        if any(key not in self.unsteady and compared(one[key]) is not None for key in one):
+            return None
+        errors = [error_of(answer) for answer in one.values() if "error" in answer]
+        if errors and not self.unsteady:
+            return f"{ERRORS}, such as {errors[0]}"
+        return UNSTEADY if self.unsteady else NO_QUESTIONS
 
     def shows_names(self, document, answers):
         answer = answers.get((SYMBOLS, True))
         return answer is None or document.overwriting.is_shown(names_of(answer.get("result")))
 
-    def answers_without_text(self):
+    def answers_without_text(self, only):
         """What is answered about a document that is not open."""
         uri, found = self.uri(), {}
         document = self.told(uri, "")
         keys = [it for it in Asking(self.greeting.setting, [document], Plan()).asked(self.run)
-                if not it.is_overwritten]
+                if not it.is_overwritten and self.is_asked(it, only)]
         self.hear({uri: found}, [document], keys)
         return found
 
-    def answers_to_text(self, text, by_change):
-        """What is answered about a document that is given this text."""
-        document = self.play(Case((text,), (), by_change))
-        answers, = self.answers([document], overwrites=False)
+    def answers_about(self, case, only=None):
+        """What is answered about the document of a case, or if there is none about one that is not
+        open; without overwriting its lines."""
+        if case is None:
+            return self.answers_without_text(only)
+        answers, = self.answers([self.play(case)], (), False, only)
         return answers

@@ -5,23 +5,25 @@ from collections import deque
 
 from features import ASKED_FOR, FEATURES, PLAIN
 
-# What comes with a feature, since it means nothing alone.
-WITH = {"mixed": ("cr", "crlf"), "encodings": ("astral", "combining")}
+# What comes along with a feature if it is chosen, too; and what comes along unless it is left out,
+# since the feature shows nothing without it.
+WITH, NEEDS = {"mixed": ("cr", "crlf")}, {"encodings": ("astral", "combining")}
 # How many sessions of a round have several features.
 OF_SEVERAL = 3
 
 
-class Plan:
+class Schedule:
     """The features of sessions, as long as they are not known to show a drift."""
 
-    def __init__(self, seed, chosen):
-        self.seed, self.chosen = seed, set(chosen)
+    def __init__(self, seed, only=(), without=()):
+        self.seed, self.chosen, self.left_out = seed, chosen(only, without), set(without)
         self.had_special = bool(self.special)
         self.round, self.queue = 0, deque()
 
     def leave_out(self, feature):
         """Leaves out a feature that has shown a drift."""
         self.chosen.discard(feature)
+        self.left_out.add(feature)
 
     @property
     def special(self):
@@ -54,8 +56,9 @@ class Plan:
 
     def completed(self, features):
         """These features, with the plain ones and with what must come along."""
-        along = {it for feature in features for it in WITH.get(feature, ())}
-        return frozenset(features | (along | set(PLAIN)) & self.chosen)
+        along = {it for feature in features for it in WITH.get(feature, ())} | set(PLAIN)
+        needed = {it for feature in features for it in NEEDS.get(feature, ())}
+        return frozenset(features | along & self.chosen | needed - self.left_out)
 
 
 def chosen(only, without):

@@ -1,6 +1,8 @@
 """Cuts a case down: fewer steps, then less of the text before them, then less of the change
 itself."""
 
+import math
+import time
 from dataclasses import replace
 
 from cases import LINE_END, Case, text_before
@@ -12,15 +14,16 @@ ENDS = ("\n", "\r\n", "\r")
 
 
 class Shrinking:
-    """The smallest case found so far that still shows what it shows."""
+    """The smallest case found so far that still shows what it shows. After the moment `end` no
+    other is tried."""
 
-    def __init__(self, case, is_shown, note, most=MOST_TRIED):
+    def __init__(self, case, is_shown, note, end=math.inf, most=MOST_TRIED):
         self.case, self.is_shown, self.note = case, is_shown, note
-        self.left, self.tried = most, {case}
+        self.end, self.left, self.tried = end, most, {case}
 
     def keep(self, case):
         """Whether a case shows the same; it is then the smallest one."""
-        if case in self.tried or self.left <= 0 or idle_edits(case) > idle_edits(self.case):
+        if self.is_over() or case in self.tried or idle_edits(case) > idle_edits(self.case):
             return False
         self.tried.add(case)
         self.left -= 1
@@ -29,6 +32,9 @@ class Shrinking:
         self.case = case
         self.note(case)
         return True
+
+    def is_over(self):
+        return self.left <= 0 or time.monotonic() > self.end
 
     def smallest(self):
         while True:
@@ -39,7 +45,7 @@ class Shrinking:
             self.simplify_steps()
             for number in range(len(self.case.texts)):
                 self.drop_text(number)
-            if self.case == before or self.left <= 0:
+            if self.case == before or self.is_over():
                 break
         self.end_lines()
         self.unify_ends()
@@ -116,7 +122,7 @@ class Shrinking:
 
     def drop_parts(self, number, parts_of, size):
         at = 0
-        while at < len(parts := parts_of(self.case.texts[number])) and self.left > 0:
+        while at < len(parts := parts_of(self.case.texts[number])) and not self.is_over():
             start = sum(map(len, parts[:at]))
             end = start + sum(map(len, parts[at : at + size]))
             if not self.keep(without(self.case, number, start, end)):

@@ -56,6 +56,11 @@ class Store:
     loses_last: bool = False
     drops_last: bool = False
 
+    @property
+    def changes_texts(self):
+        """Whether it may hold another text than the one it is given at once."""
+        return self.opened is not as_sent or self.typed is not as_sent
+
     def with_faults_of(self, other):
         """Both faults in one store."""
         plain = Store()

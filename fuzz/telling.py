@@ -11,6 +11,7 @@ from hunt import Hunt
 from messages import member, value_of
 from program import Failed
 from report import Report, cut
+from schedule import Schedule
 from script import quoted, write
 
 # How often a terminal is told how far the hunt is, in seconds; and how much of a text a line shows.
@@ -18,7 +19,10 @@ EVERY, MOST_SHOWN = 0.5, 60
 
 
 def shown_text(text):
-    return cut(json.dumps(text, ensure_ascii=False), 0, MOST_SHOWN).replace("\x7f", "\\u007f")
+    """The beginning of a text as JSON, with an escape for what a terminal would obey or hide."""
+    found = json.dumps(text[: MOST_SHOWN + 1], ensure_ascii=False)
+    found = "".join(it if it.isprintable() else json.dumps(it)[1:-1] for it in found)
+    return cut(found, 0, MOST_SHOWN)
 
 
 def shown_change(change):
@@ -45,18 +49,19 @@ class Telling:
         self.hunting, self.begun, self.files, self.told = None, time.monotonic(), [], 0
         self.is_terminal = sys.stderr is not None and sys.stderr.isatty()
 
-    def hunt(self, workshop, language, seed, start):
+    def hunt(self, target, language, seed, start):
         """Hunts for drifts: the status, which is told, too."""
         try:
-            status = self.status_of(workshop, language, seed, start)
+            status = self.status_of(target, language, seed, start)
         except Failed as failed:
             self.report.end(failed.status, str(failed))
             raise
         self.report.end(status)
         return status
 
-    def status_of(self, workshop, language, seed, start):
-        self.hunting = Hunt(workshop, language, seed, self.given.features, start)
+    def status_of(self, target, language, seed, start):
+        schedule = Schedule(seed, self.given.only, self.given.without)
+        self.hunting = Hunt(target, language, schedule, start)
         try:
             self.hunting.run(self.given.seconds, self.tell, self.tell_progress)
         except Failed as failed:
@@ -80,7 +85,8 @@ class Telling:
         words = [part for text in before for part in ("text", shown_text(text))]
         words += [part for it in changes[:3] for part in ("change", shown_change(it))]
         words += [".."] if len(changes) > 3 else []
-        counts = {"seed": self.hunting.seed, "session": found.session, "edits": found.edits}
+        seed = self.hunting.schedule.seed
+        counts = {"seed": seed, "session": found.session, "edits": found.edits}
         words += ["right", shown_text(last[-1].text)]
         words += [word for it in counts.items() for word in it]
         self.report.line("drift", f"{found.feature}:", f"{found.cause};", *words, **{
@@ -118,7 +124,7 @@ class Telling:
             said = json.dumps(hunt.verdict)
             self.report.line("lspcheck says", said, "of the server", verdict=hunt.verdict)
         counts = {"sessions": hunt.sessions, "edits": hunt.edits, "answers": hunt.questions,
-                  "unconfirmed": sum(hunt.unconfirmed.values())}
+                  "unconfirmed": sum(hunt.unconfirmed.values()), "failures": hunt.failed}
         words = [word for it in counts.items() for word in it]
         self.report.line("drifts", len(hunt.found), *words, "seed", seed,
                          drifts=len(hunt.found), **counts, seed=seed)

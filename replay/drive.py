@@ -252,12 +252,21 @@ class Run:
 
     def ask(self, method, params):
         """Asks a question. The answer is the response."""
-        key = key_of(next(self.server.ids))
-        self.server.ask(key, messages.request(int(key), method, params), True)
-        answer = self.server.wait(key, self.setting.wait)
+        return self.answer(self.put(method, params), method)
+
+    def put(self, method, params):
+        """Sends a question: its id, as JSON text."""
+        id = key_of(next(self.server.ids))
+        self.server.ask(id, messages.request(int(id), method, params), True)
+        return id
+
+    def answer(self, id, method):
+        """Waits for the answer to a question, which the server need not keep."""
+        answer = self.server.wait(id, self.setting.wait)
         if answer is None:
             self.check()
             raise self.timed_out(f'the question "{method}"')
+        self.server.forget(id)
         return answer
 
 

@@ -21,6 +21,7 @@ OFFERED_BY = {
 # rust-analyzer gives the text itself, and names no capability for it.
 VIEW, VIEWER = "rust-analyzer/viewFileText", "rust-analyzer"
 SYMBOLS, PULLED = "textDocument/documentSymbol", "textDocument/diagnostic"
+SELECTION = "textDocument/selectionRange"
 # What is asked once the lines are overwritten; and diagnostics, which come late, only where time
 # does not matter.
 OF_NAMES = (VIEW, SYMBOLS, "textDocument/foldingRange", "textDocument/formatting")
@@ -91,7 +92,7 @@ def params_of(method, uri, text, encoding):
     params = {"textDocument": {"uri": uri}}
     if method == "textDocument/formatting":
         params["options"] = FORMATTING
-    elif method == "textDocument/selectionRange":
+    elif method == SELECTION:
         params["positions"] = positions(text, encoding)
     return params
 

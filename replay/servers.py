@@ -178,6 +178,12 @@ class Server:
             self.condition.wait_for(is_done, seconds)
             return self.answers.get(id)
 
+    def forget(self, id):
+        """Drops the answer to a request."""
+        with self.condition:
+            self.answers.pop(id, None)
+            self.whole.discard(id)
+
     def check_running(self, when):
         """Fails if the server has ended."""
         with self.condition:

@@ -37,14 +37,17 @@ FAULTS = [
     (["narrow"], ["long"], "columns have 8 bits"),
     (["cr", "past=dropped"], ["cr", "past-end"], None),
 ]
-# Those in which a message of the log is needed that gives the document its text.
-ONLY = {"beyond": ["--only", "past-last"]}
+# The seeds, and within how many seconds each fault is found on an idle machine; a busy one gets ten
+# times as many.
+SEEDS, MOST = (1, 2, 3, 4, 5), 30
 
 
-def is_found(program, place, faults, features, cause, seed):
+def is_found(program, place, faults, features, cause, seed, is_only=False):
     """The drift is found and explained; and what is written shows it again."""
     small = place / f"{'-'.join(faults).replace('/', '_')}-{seed}.log"
-    options = ["--small", small, *ONLY.get(faults[0], [])]
+    options = ["--small", small, "--seconds", 10 * MOST]
+    if is_only or "past-last" in features:
+        options += ["--only", ",".join(features).replace("opening", "typing")]
     objects = until_found(program, *faults, options=options, seed=seed)
     found = drifts(objects)
     assert len(found) == 1, objects
@@ -55,11 +58,12 @@ def is_found(program, place, faults, features, cause, seed):
 
 
 def finds_each_fault(program, place):
-    side_by_side(is_found, [(program, place, *row, 1) for row in FAULTS])
+    """In sessions of its feature alone."""
+    side_by_side(is_found, [(program, place, *row, 1, True) for row in FAULTS])
 
 
-def finds_each_fault_with_other_seeds(program, place):
-    side_by_side(is_found, [(program, place, *row, seed) for row in FAULTS for seed in (2, 3, 4, 5)])
+def finds_each_fault_among_all_features(program, place):
+    side_by_side(is_found, [(program, place, *row, seed) for row in FAULTS for seed in SEEDS])
 
 
 def finds_one_behind_the_other(program, place):
@@ -82,4 +86,4 @@ def counts_only_what_fresh_servers_show(program, place):
 
 
 TESTS = [finds_each_fault, finds_one_behind_the_other, counts_only_what_fresh_servers_show]
-LONG_TESTS = [finds_each_fault_with_other_seeds]
+LONG_TESTS = [finds_each_fault_among_all_features]

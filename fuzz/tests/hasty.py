@@ -1,6 +1,8 @@
 """lspcheck-fuzz as it is, but that it asks fresh servers again after tenths of a second: the server of
-the tests answers at once."""
+the tests answers at once. The variable LIMIT has the seconds that it may take to cut a drift down, and
+to explain it."""
 
+import os
 import runpy
 import sys
 from pathlib import Path
@@ -11,9 +13,11 @@ sys.path.insert(0, str(FUZZ))
 sys.path += [str(FUZZ.parent / folder) for folder in ("replay", "page", "recorders")]
 
 import confirming  # noqa: E402
+import hunt  # noqa: E402
 import questions  # noqa: E402
 
 confirming.PAUSES = (0.1, 0.2)
 questions.SHORT_PAUSES = (0.05,)
+hunt.CUTTING = hunt.EXPLAINING = float(os.environ.get("LIMIT", hunt.CUTTING))
 sys.argv[0] = str(FUZZ / "lspcheck-fuzz")
 runpy.run_path(sys.argv[0], run_name="__main__")

@@ -1,21 +1,23 @@
 """An honest server: nothing is found, whatever it offers, and however late it is."""
 
-from hunts import COMMAND, objects_of, run, run_longer, side_by_side
+import os
+import subprocess
+import sys
+from concurrent.futures import ThreadPoolExecutor
+from contextlib import contextmanager
+
+from hunts import COMMAND, has_played, nothing_is_left, objects_of, run, run_longer, side_by_side
 from processes import SECONDS
 
 # What an honest server may do.
 KINDS = [[], ["utf-8"], ["utf-32"], ["full"], ["late=0.02"]]
-# How long it is tried with each seed, in seconds.
-LONG = 600
-
-
-def has_asked(done):
-    """Whether a hunt got as far as to ask something."""
-    return done.returncode != 2 or "nothing was asked" not in done.stderr
+# How long it is tried, in seconds, with which seeds, and next to how many processes on each processor
+# that never rest.
+LONG, SEEDS, LOAD = 600, (1, 2, 3, 4, 5), 4
 
 
 def finds_nothing(program, faults):
-    done = run_longer(program, *faults, options=["--json"], is_wanted=has_asked)
+    done = run_longer(program, *faults, options=["--json"], is_wanted=has_played)
     objects = objects_of(done)
     found = [it for it in objects if it["is"] == "drift"]
     assert (done.returncode, found, done.stderr) == (0, [], ""), (faults, done)
@@ -26,15 +28,31 @@ def accuses_no_honest_server(program, place):
     side_by_side(finds_nothing, [(program, it) for it in KINDS])
 
 
+@contextmanager
+def busy_machine():
+    words = [sys.executable, "-IS", "-c", "while True: pass"]
+    running = [subprocess.Popen(words) for _ in range(LOAD * len(os.sched_getaffinity(0)))]
+    try:
+        yield
+    finally:
+        for process in running:
+            process.kill()
+            process.wait()
+
+
 def finds_nothing_in_ten_minutes(program, place):
-    """With five seeds at a time, so that the machine is busy."""
-    side_by_side(finds_nothing_for_long, [(program, seed) for seed in range(1, 6)])
+    """With five seeds at the same time, on a machine that has no time for them; and nothing is left."""
+    with busy_machine(), ThreadPoolExecutor(len(SEEDS)) as pool:
+        list(pool.map(lambda seed: finds_nothing_for_long(program, place, seed), SEEDS))
 
 
-def finds_nothing_for_long(program, seed):
-    options = ["--seconds", LONG]
-    done = run(program, options=options, seed=seed, command=COMMAND, timeout=10 * LONG)
-    assert (done.returncode, done.stderr) == (0, ""), (seed, done)
+def finds_nothing_for_long(program, place, seed):
+    temporary, children = place / f"temporary-{seed}", place / f"children-{seed}"
+    temporary.mkdir()
+    how = {"seed": seed, "command": COMMAND, "timeout": 10 * LONG, "env": {**os.environ, "TMPDIR": str(temporary)}}
+    done = run(program, f"child={children}", options=["--seconds", LONG], **how)
+    assert (done.returncode, done.stderr) == (0, "") and "drifts 0 " in done.stdout, (seed, done)
+    nothing_is_left(temporary, children)
 
 
 def says_which_rule_the_server_breaks(program, place):
@@ -58,4 +76,4 @@ def makes_the_same_of_the_same_seed(program, place):
 
 
 TESTS = [accuses_no_honest_server, says_which_rule_the_server_breaks, makes_the_same_of_the_same_seed]
-LONG_TESTS = [finds_nothing_in_ten_minutes]
+LOADING_TESTS = [finds_nothing_in_ten_minutes]

@@ -2,20 +2,21 @@
 
 import json
 import os
+import re
 import signal
 import subprocess
 import sys
 from concurrent.futures import ThreadPoolExecutor
 from pathlib import Path
 
-from processes import SECONDS, with_signals
+from processes import SECONDS, is_running, until, with_signals
 
 HERE = Path(__file__).resolve().parent
 TOP = HERE.parent.parent
 COMMAND, HASTY = TOP / "fuzz/lspcheck-fuzz", HERE / "hasty.py"
 SERVER = [sys.executable, "-IS", HERE / "server.py"]
-# How many hunts run at a time.
-WIDTH = 4
+# How many hunts run at a time, and how many sessions there are until each feature was in one.
+WIDTH, ROUND = 4, 24
 
 
 def words_of(program, *faults, options=(), command=HASTY, server=SERVER, seed=1, language="c"):
@@ -36,9 +37,15 @@ def run(program, *faults, options=(), command=HASTY, server=SERVER, seed=1, lang
     return subprocess.run(words, **how)
 
 
+def has_played(done):
+    """Whether a hunt has gone on until each feature was in a session."""
+    found = re.search(r'\bsessions"?[ :](\d+)', done.stdout)
+    return bool(found) and int(found[1]) >= ROUND
+
+
 def run_longer(program, *faults, options=(), is_wanted, **how):
     """A hunt that takes as long as a busy machine needs for what is wanted."""
-    for seconds in (4, 16, 64, 256):
+    for seconds in (1, 4, 16, 64, 256):
         done = run(program, *faults, options=["--seconds", seconds, *options], **how)
         if is_wanted(done):
             break
@@ -59,7 +66,7 @@ def until_found(program, *faults, count=1, options=(), seed=1):
                 process.send_signal(signal.SIGTERM)
                 break
         said = process.stderr.read()
-    assert "Traceback" not in said, said
+    assert objects and "Traceback" not in said, said
     return objects
 
 
@@ -81,6 +88,19 @@ def replayed(program, log, *faults, server=SERVER):
     """What lspcheck-replay says about a log."""
     words = [sys.executable, TOP / "replay/tests/hasty.py", "--program", program, log, *server, *faults]
     return subprocess.run(list(map(str, words)), capture_output=True, text=True, timeout=SECONDS)
+
+
+def nothing_is_left(temporary, children):
+    """Fails if a folder for temporary files is not empty, or if a process runs that is in this file."""
+    started = [int(it) for it in children.read_text().split()]
+    assert len(started) >= 2, started
+    until(lambda: not any(map(is_running, started)), 60)
+    running = [it for it in started if is_running(it)]
+    for it in running:
+        os.kill(it, signal.SIGKILL)
+    assert not running, started
+    children.unlink()
+    assert list(temporary.iterdir()) == [], list(temporary.iterdir())
 
 
 def side_by_side(trial, rows):

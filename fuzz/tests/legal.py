@@ -1,8 +1,11 @@
 """Each session is one that lspcheck answers yes: of each feature, in each encoding, and cut down."""
 
 import random
+import shutil
 import subprocess
 import sys
+import tempfile
+from pathlib import Path
 
 from hunts import TOP, check, side_by_side
 
@@ -18,8 +21,8 @@ import shrinking  # noqa: E402
 import stores  # noqa: E402
 from cases import Editor  # noqa: E402
 
-# How many sessions of each kind.
-TIMES, MANY = 3, 40
+# How many sessions of each kind, and in which encodings.
+TIMES, MANY, ENCODINGS = 3, 40, ("utf-16", "utf-8", "utf-32")
 PLAIN = set(features.PLAIN)
 
 
@@ -45,13 +48,18 @@ def log_of(case, encoding, sync=2):
 
 
 def case_of(seed, chosen, has_ranges=True):
-    return editing.Random(seed, frozenset(chosen), languages.FORMS["c"], None, has_ranges).case()
+    return editing.CaseGenerator(seed, frozenset(chosen), languages.FORMS["c"], None, has_ranges).case()
 
 
-def is_legal(program, log, wanted="yes"):
-    done = subprocess.run([program, "check", "--compared"], input=log, capture_output=True)
-    said = done.stdout.decode().partition("\n")[0]
-    assert said == wanted, (said, log[-2000:])
+def are_legal(program, place, logs):
+    """Whether each of some logs is answered yes, in one run, which writes a line for each."""
+    place = Path(tempfile.mkdtemp(dir=place))
+    paths = [place / f"{number}.log" for number in range(len(logs))]
+    for path, log in zip(paths, logs):
+        path.write_bytes(log)
+    done = subprocess.run([program, "check", "--compared", *paths], capture_output=True, text=True)
+    assert done.stdout.splitlines() == [f"{path}: yes" for path in paths], done
+    shutil.rmtree(place)
 
 
 def kinds():
@@ -60,24 +68,40 @@ def kinds():
     return [*({it} | PLAIN for it in every), every, every - {"cr"}, PLAIN]
 
 
-def feature_is_legal(program, chosen, times):
-    for seed in range(times):
-        for encoding in ("utf-16", "utf-8", "utf-32"):
-            is_legal(program, log_of(case_of(seed, chosen), encoding))
-        whole = case_of(seed, chosen, has_ranges=False)
-        is_legal(program, log_of(whole, "utf-16", sync=1))
+def feature_is_legal(program, place, chosen, times):
+    cases = [case_of(seed, chosen) for seed in range(times)]
+    logs = [log_of(case, encoding) for case in cases for encoding in ENCODINGS]
+    whole = [case_of(seed, chosen, has_ranges=False) for seed in range(times)]
+    are_legal(program, place, [*logs, *(log_of(case, "utf-16", sync=1) for case in whole)])
 
 
 def sessions_are_legal(program, place):
-    side_by_side(feature_is_legal, [(program, chosen, TIMES) for chosen in kinds()])
+    side_by_side(feature_is_legal, [(program, place, chosen, TIMES) for chosen in kinds()])
 
 
 def many_sessions_are_legal(program, place):
-    side_by_side(feature_is_legal, [(program, chosen, MANY) for chosen in kinds()])
+    side_by_side(feature_is_legal, [(program, place, chosen, MANY) for chosen in kinds()])
+
+
+def sessions_begin_with_the_text_that_is_given(_program, _place):
+    """With the line ends of the session, and without the characters that only others have."""
+    given = "int a; \u2028\r\nint é;\n\n// 😀"
+    for chosen, wanted in [
+        ((), "int a; x\nint x;\n\n// x\n"),
+        (("crlf",), "int a; x\r\nint x;\r\n\r\n// x\r\n"),
+        (("astral", "combining"), "int a; x\nint é;\n\n// 😀\n"),
+        (("separators", "cr"), "int a; \u2028\rint x;\r\r// x\r"),
+    ]:
+        made = editing.CaseGenerator(1, PLAIN | set(chosen), languages.FORMS["c"], given)
+        assert made.text() == wanted, (chosen, made.text())
+    open_ended = {editing.CaseGenerator(it, PLAIN | {"no-last-end"}, None, given).text() for it in range(40)}
+    assert open_ended == {"int a; x\nint x;\n\n// x\n", "int a; x\nint x;\n\n// x"}, open_ended
+    assert editing.CaseGenerator(1, PLAIN, None, "").text() == ""
 
 
 def cut_sessions_are_legal(program, place):
     """Whatever is cut away: what is left is what a coin says."""
+    logs = []
     for seed in range(6):
         chance = random.Random(seed)
         tried = []
@@ -89,8 +113,8 @@ def cut_sessions_are_legal(program, place):
         case = case_of(seed, set(features.FEATURES) - {"bursts", "long"})
         smallest = shrinking.Shrinking(case, is_shown, lambda it: None).smallest()
         assert len(tried) > 20 and smallest != case
-        for it in [*tried[:: len(tried) // 10], smallest]:
-            is_legal(program, log_of(it, "utf-16"))
+        logs += [log_of(it, "utf-16") for it in [*tried[:: len(tried) // 10], smallest]]
+    are_legal(program, place, logs)
 
 
 def cuts_down_to_what_it_takes(_program, _place):
@@ -117,7 +141,7 @@ def right_store_holds_the_right_text(_program, _place):
     """The stores are wrong in what they name alone: the one that names nothing holds what is right."""
     for seed in range(TIMES):
         for chosen in kinds():
-            for encoding in ("utf-16", "utf-8", "utf-32"):
+            for encoding in ENCODINGS:
                 sent = sent_of(case_of(seed, chosen), encoding)
                 last = [it for it in sent if it.uri == "file:///one.c" and it.text is not None][-1]
                 contents = [it.content for it in sent]
@@ -140,6 +164,7 @@ def is_compared(program, place):
 
 TESTS = [
     sessions_are_legal,
+    sessions_begin_with_the_text_that_is_given,
     cut_sessions_are_legal,
     cuts_down_to_what_it_takes,
     right_store_holds_the_right_text,

@@ -25,11 +25,15 @@ stores of that command.
   silent                   answers no question                         breaks       answers without "jsonrpc"
   child=F                  starts a process, and writes its id to F    none         wants no changes
   slow=S                   answers after S seconds                    formats      formats, and so shows its text
+  noisy                    writes a megabyte to standard error at each change   large   sends 30 MB at once
+  asks                     sends a request at each change             stays        ends only if it is killed
+  deep=N                   answers with lists in lists, N of them      errors      answers with errors alone
 """
 
 import json
 import os
 import re
+import signal
 import subprocess
 import sys
 import time
@@ -163,12 +167,14 @@ if "formats" in FAULTS:
 class Server:
     def __init__(self):
         self.documents, self.closed, self.encoding = {}, {}, "utf-16"
-        self.heard, self.is_asked, self.opened = 0, False, 0
+        self.heard, self.is_asked, self.opened, self.asked = 0, False, 0, 0
 
     def send(self, **message):
         head = {} if "breaks" in FAULTS and "result" in message else {"jsonrpc": "2.0"}
-        content = json.dumps({**head, **message}).encode()
-        sys.stdout.buffer.write(b"Content-Length: %d\r\n\r\n%s" % (len(content), content))
+        self.put(json.dumps({**head, **message}))
+
+    def put(self, content):
+        sys.stdout.buffer.write(b"Content-Length: %d\r\n\r\n%s" % (len(content.encode()), content.encode()))
         sys.stdout.buffer.flush()
 
     def greet(self, id, params):
@@ -191,8 +197,11 @@ class Server:
                 self.send(id=message["id"], result=None)
             elif "silent" not in FAULTS:
                 self.send(id=message["id"], error={"code": -32601, "message": "no such method"})
-        elif document is None:
+        elif document is None or "errors" in FAULTS:
             self.send(id=message["id"], error={"code": -32602, "message": "no such document"})
+        elif "deep" in FAULTS:
+            lists = "[" * int(FAULTS["deep"]) + "]" * int(FAULTS["deep"])
+            self.put(f'{{"jsonrpc":"2.0","id":{json.dumps(message["id"])},"result":{lists}}}')
         else:
             found = list(ANSWERS[method](document.shown()))
             self.send(id=message["id"], result=[*found, *([{"now": time.time()}] if "now" in FAULTS else [])])
@@ -239,6 +248,8 @@ class Server:
         document = (params or {}).get("textDocument") or {}
         uri = document.get("uri")
         if method == "exit":
+            if "stays" in FAULTS:
+                signal.pause()
             sys.exit(0)
         elif method == "textDocument/didOpen":
             self.open(document)
@@ -246,15 +257,26 @@ class Server:
             self.closed[uri] = self.documents.pop(uri).text
         elif method == "textDocument/didChange" and uri in self.documents:
             self.change(uri, document["version"], params["contentChanges"])
+            self.disturb()
+        elif method == "initialized" and "large" in FAULTS:
+            self.send(method="window/logMessage", params={"type": 4, "message": "x" * 30_000_000})
+
+    def disturb(self):
+        """Sends what a client should bear."""
+        if "noisy" in FAULTS:
+            sys.stderr.write("out of luck\n" * 90_000)
+        if "asks" in FAULTS:
+            self.asked += 1
+            self.send(id=f"of-server-{self.asked}", method="workspace/configuration", params={"items": [{}]})
 
     def take(self, message):
         self.heard += 1
         if self.heard == int(FAULTS.get("ends", -1)):
             sys.exit(3)
-        if "id" in message:
+        if "id" in message and "method" in message:
             self.is_asked = message["method"] == "textDocument/hover"
             self.answer(message)
-        else:
+        elif "method" in message:
             self.hear(message["method"], message.get("params"))
             self.is_asked = False
 
@@ -269,6 +291,8 @@ def messages():
 
 
 def main():
+    if "stays" in FAULTS:
+        signal.signal(signal.SIGTERM, signal.SIG_IGN)
     if "child" in FAULTS:
         child = subprocess.Popen(["sleep", "1000"], stdout=subprocess.DEVNULL, stderr=subprocess.DEVNULL)
         with open(FAULTS["child"], "a") as file:

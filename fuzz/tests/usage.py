@@ -1,14 +1,15 @@
 """The command: its statuses and messages, each value that it writes, and its options."""
 
+import contextlib
 import json
 import os
+import pty
 import re
-import signal
 import subprocess
 import sys
 
-from hunts import COMMAND, TOP, check, objects_of, replayed, run, run_longer, until_found, words_of
-from processes import SECONDS, SIGNALS, is_running, quoted, until, with_signals
+from hunts import COMMAND, TOP, check, has_played, objects_of, replayed, run, run_longer, until_found, words_of
+from processes import SECONDS, quoted
 
 
 def refuses(done, status, words):
@@ -56,6 +57,8 @@ def says_why_nothing_can_be_said(program, place):
     refuses(run(program, server=["/no/such/server"]), 2, "/no/such/server: No such file")
     refuses(run(program, "offerless"), 2, "offers none of the questions")
     refuses(run(program, "now"), 2, "the server answers otherwise each time")
+    error = 'an error, such as error -32602 "no such document"'
+    refuses(run(program, "errors"), 2, f"the server answers each question with {error}")
     refuses(run(program, "none"), 2, "the server wants no changes of documents")
     refuses(run(program, server=["true"]), 2, "true ended with status 0")
     refuses(run("/no/such/lspcheck"), 2, "/no/such/lspcheck: there is no such program")
@@ -101,7 +104,7 @@ def writes_each_value(program, place):
     changed = units[: 2 * start] + new.encode("utf-16-le") + units[2 * end :]
     assert changed.decode("utf-16-le") == right, first
     assert second == f"small {small} 6 messages", second
-    assert re.fullmatch(r"drifts 1 sessions \d+ edits \d+ answers \d+ unconfirmed 0 seed 1", last), last
+    assert re.fullmatch(r"drifts 1 sessions \d+ edits \d+ answers \d+ unconfirmed 0 failures 0 seed 1", last), last
     assert check(program, small) == "yes" and replayed(program, small, "characters").returncode == 1
     done = run(program, "characters", options=[*options, "--json"])
     drift, written, total, status = objects_of(done)
@@ -120,7 +123,7 @@ def leaves_out_what_it_is_told(program, place):
         (["beyond"], []),
         (["cr"], ["--only", "astral,crlf"]),
     ]:
-        done = run_longer(program, *faults, options=options, is_wanted=lambda it: it.returncode != 2)
+        done = run_longer(program, *faults, options=options, is_wanted=has_played)
         assert (done.returncode, done.stderr) == (0, ""), (faults, done)
 
 
@@ -145,44 +148,24 @@ def ends_quietly_where_its_reader_is_gone(program, place):
         assert (done.returncode, done.stderr) == (141, ""), (options, done)
 
 
-def leaves_nothing(program, place):
-    """No process and no folder, however it ends. A signal leaves the smallest session so far."""
-    temporary, children, small = place / "temporary", place / "children", place / "small.log"
-    temporary.mkdir()
-    environment = {**os.environ, "TMPDIR": str(temporary)}
-    done = run_longer(program, f"child={children}", is_wanted=lambda it: it.returncode == 0, env=environment)
-    assert done.returncode == 0, done
-    is_left(temporary, children)
-    for number in (*SIGNALS, signal.SIGQUIT):
-        options = ["--seconds", SECONDS, "--small", small]
-        words = words_of(program, f"child={children}", "slow=0.05", "whole", options=options, command=COMMAND)
-        pipes = {"stdout": subprocess.DEVNULL, "stderr": subprocess.PIPE, "env": environment}
-        with subprocess.Popen(words, preexec_fn=with_every_signal, **pipes) as process:
-            assert until(lambda: children.exists() and children.read_text().count("\n") >= 2)
-            process.send_signal(number)
-            said = process.stderr.read().decode()
-            assert process.wait(SECONDS) == -number, said
-        lines = said.splitlines()
-        assert lines[-1] == f"lspcheck-fuzz: stopped by {number.name}" and len(lines) <= 2, said
-        assert not small.exists() or check(program, small) == "yes", small.read_bytes()
-        is_left(temporary, children)
+def tells_a_terminal_how_far_it_is(program, place):
+    """In a line that is taken back at the end."""
+    terminal, its_end = pty.openpty()
+    words = words_of(program, options=["--seconds", 1])
+    with subprocess.Popen(words, stdout=subprocess.PIPE, stderr=its_end) as process:
+        os.close(its_end)
+        said = b"".join(read_all(terminal))
+        process.communicate()
+    os.close(terminal)
+    assert re.search(rb"\r\x1b\[K\d+ of 1 seconds, \d+ sessions, \d+ edits, 0 drifts\r\x1b\[K", said), said
+    assert said.endswith(b"\r\x1b[K"), said
 
 
-def with_every_signal():
-    with_signals()
-    signal.signal(signal.SIGQUIT, signal.SIG_DFL)
-
-
-def is_left(temporary, children):
-    started = [int(it) for it in children.read_text().split()]
-    assert len(started) >= 2, started
-    until(lambda: not any(map(is_running, started)), 60)
-    running = [it for it in started if is_running(it)]
-    for it in running:
-        os.kill(it, signal.SIGKILL)
-    assert not running, started
-    children.unlink()
-    assert list(temporary.iterdir()) == [], list(temporary.iterdir())
+def read_all(terminal):
+    """What a terminal is written, until its other end is closed."""
+    with contextlib.suppress(OSError):
+        while data := os.read(terminal, 1 << 16):
+            yield data
 
 
 def helps_as_its_manual_page_does(program, place):
@@ -208,7 +191,7 @@ TESTS = [
     writes_each_value,
     leaves_out_what_it_is_told,
     begins_with_a_file,
+    tells_a_terminal_how_far_it_is,
     ends_quietly_where_its_reader_is_gone,
-    leaves_nothing,
     helps_as_its_manual_page_does,
 ]
