@@ -217,7 +217,7 @@ async function loadFirst() {
 await loadFirst();
 document.title = `${verdictOf()[1]} – ${namedText(session.name ?? "standard input")}`;
 document.getElementById("overview").append(...[
-  verdictPart(), cutPart(), smallestPart(), casePart(), badLogPart(), firstViolation(),
+  verdictPart(), cutPart(), badLogPart(), firstViolation(), smallestPart(), casePart(),
   otherViolations(), notesPart(),
   documentsPart((number) => search.filter(number)),
 ].filter(Boolean));
