@@ -105,7 +105,7 @@ def writes_to_what_is_no_plain_file(program, place):
         answers(run(EXAMPLE, "--program", program, "-o", full), 3, "full: No space left on device")
         assert stat.S_ISCHR(os.stat(full).st_mode)
     os.mkfifo(place / "pipe")
-    words = [sys.executable, COMMAND, EXAMPLE, "--program", program, "-o", place / "pipe"]
+    words = [sys.executable, COMMAND, EXAMPLE, "--program", program, "--shrink", "0", "-o", place / "pipe"]
     with subprocess.Popen(words, stdout=subprocess.DEVNULL) as running:
         page = (place / "pipe").read_bytes()
         assert running.wait(SECONDS) == 0 and stat.S_ISFIFO(os.stat(place / "pipe").st_mode)
@@ -117,7 +117,7 @@ def writes_to_what_is_no_plain_file(program, place):
 
 def reads_standard_input(program, place):
     """From a pipe, a file or a named pipe; the page has no name of a log then."""
-    words = [sys.executable, COMMAND, "--program", program]
+    words = [sys.executable, COMMAND, "--program", program, "--shrink", "0"]
     given = EXAMPLE.read_bytes()
     piped = subprocess.run([*words, "-"], input=given, capture_output=True, timeout=SECONDS)
     assert piped.returncode == 0 and piped.stdout.startswith(b"<!doctype html>"), piped.stderr

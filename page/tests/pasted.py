@@ -8,6 +8,7 @@ import subprocess
 
 import columns
 import hunks
+import in_markdown
 import logs
 from command import EXAMPLE, TOP, answers, run
 from data import EXAMPLES, NO, WRONG, lines_of, output, page_of, smallest_of, written
@@ -256,6 +257,9 @@ def stays_text(program, place):
         assert not re.search(r"\S[.:]\S|GH-|[0-9a-f]{7}", rest.replace("**", "")), (log, rest)
     text = printed(program, made[0])
     assert "`" * 10 in text and ticks.split("\n")[0] in text, text
+    # No line of a log is a fence by itself today; should one be, it doesn't end its block.
+    for lines in (["```"], ["a", "`````", "~~~"], ["``````` x"]):
+        assert blocks_in("\n".join(in_markdown.block("", lines))) == ([lines], ""), lines
 
 
 def pastes_the_smallest_session(program, place):

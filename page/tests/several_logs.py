@@ -11,6 +11,7 @@ import signal
 import stat
 import subprocess
 import sys
+from collections import Counter
 from html.parser import HTMLParser
 from pathlib import Path
 
@@ -92,12 +93,15 @@ def has_a_row_for_each_log(program, place):
     """In the order in which they were given, what `lspcheck` says about each."""
     made = [written(place, name, content) for name, content in logs.telling().items()]
     given = [*EXAMPLES, *made, written(place, "cut.log", (TOP / "examples/clangd-session.log").read_bytes()[:9000])]
-    table = Table((folder_of(program, place, given) / "index.html").read_text())
+    page = (folder_of(program, place, given) / "index.html").read_text()
+    table = Table(page)
     assert table.rows[0] == HEADS, table.rows[0]
     assert len(table.rows) == 1 + len(given)
     for row, log in zip(table.rows[1:], given):
         assert row == due(program, log, log), (row, due(program, log, log))
-    assert {row[1][:3] for row in table.rows[1:]} == {"Yes", "No ", "Bad"}
+    found = Counter(lines_of(program, "check", log)[0].split()[0] for log in given)
+    assert found.keys() == {"yes", "no", "bad"}
+    assert f"<h1>{len(given)} logs: {found['no']} no, {found['bad']} bad log, {found['yes']} yes</h1>" in page, found
 
 
 def has_a_page_for_each_log(program, place):
