@@ -37,8 +37,10 @@ class Store:
     encoding: str = None
     ends: str = LINE_ENDS
     past: int = AS_END
-    # The same for a line past the last one alone.
+    # The same for a line past the last one alone; and whether the first column of the next line is
+    # none of these, and means the end of the text.
     beyond: int = AS_END
+    has_next_line: bool = False
     # What becomes of the text of a didOpen, of that of a change, of all changes of a message, and
     # of a range.
     opened: object = as_sent
@@ -126,7 +128,8 @@ class Held:
     def offset(self, text, lines, place):
         line, column = place["line"], place["character"]
         if line >= len(lines):
-            check(max(self.store.past, self.store.beyond))
+            if not self.store.has_next_line or (line, column) != (len(lines), 0):
+                check(max(self.store.past, self.store.beyond))
             return len(text)
         start, end, next_start = lines[line]
         at = start + in_characters(text[start:end], column, self.encoding)
@@ -217,6 +220,7 @@ PAST = [
     Store("stands after the line end", past=AFTER_END),
     Store("change ignored", past=IGNORED),
     Store("change ignored", past=MESSAGE_IGNORED),
+    Store("change ignored", past=MESSAGE_IGNORED, has_next_line=True),
     Store("document dropped", past=DROPPED),
 ]
 BEYOND = [

@@ -37,24 +37,27 @@ FAULTS = [
     (["narrow"], ["long"], "columns have 8 bits"),
     (["cr", "past=dropped"], ["cr", "past-end"], None),
 ]
+# The features whose small cases are replayed, even where the hunt has them alone.
+REPLAYED = ("astral", "cr", "opening", "past-end", "whole")
 # The seeds, and within how many seconds each fault is found on an idle machine; a busy one gets ten
 # times as many.
 SEEDS, MOST = (1, 2, 3, 4, 5), 30
 
 
 def is_found(program, place, faults, features, cause, seed, is_only=False):
-    """The drift is found and explained; and what is written shows it again."""
+    """The drift is found and explained; and what is written is legal, and shows it again."""
     small = place / f"{'-'.join(faults).replace('/', '_')}-{seed}.log"
     options = ["--small", small, "--seconds", 10 * MOST]
     if is_only or "past-last" in features:
-        options += ["--only", ",".join(features).replace("opening", "typing")]
+        options += ["--only", ",".join("typing" if it == "opening" else it for it in features)]
     objects = until_found(program, *faults, options=options, seed=seed)
     found = drifts(objects)
     assert len(found) == 1, objects
     assert found[0]["feature"] in features and (cause is None or found[0]["causes"] == [cause]), found
     assert check(program, small) == "yes", small.read_bytes()
-    again = replayed(program, small, *faults)
-    assert again.returncode == 1, (again.stdout, again.stderr)
+    if not is_only or features[0] in REPLAYED:
+        again = replayed(program, small, *faults)
+        assert again.returncode == 1, (again.stdout, again.stderr)
 
 
 def finds_each_fault(program, place):

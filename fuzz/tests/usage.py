@@ -76,7 +76,7 @@ if [ $(wc -c < {quoted(place)}/log.$$) -gt {size} ]; then echo {words}; exit 1; 
 exec {quoted(program)} "$@" < {quoted(place)}/log.$$
 """)
         other.chmod(0o755)
-        done = run_longer(other, is_wanted=lambda it: f'"{words}"' in it.stderr)
+        done = run_longer(other, is_wanted=lambda it: it.returncode == 2 or has_played(it))
         refuses(done, 2, f'lspcheck says "{words}" about a session of this command')
 
 
