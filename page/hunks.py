@@ -82,7 +82,7 @@ def equal_lines(lines, is_first, is_last):
 
 def clipped(line, start):
     """A line from a column on, without its LF: an end that is not LF alone can be seen."""
-    rest = visible(line.removesuffix("\n")[start:], "\t")
+    rest = visible(line.removesuffix("\n")[start : start + LONGEST + 1], "\t")
     return f"{'…' if start else ''}{cut(rest, LONGEST)}"
 
 

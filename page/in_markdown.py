@@ -18,6 +18,8 @@ from wording import counted, cut, sentence_of, short_name, visible
 # How many characters of the message and of a suspect are shown, and how many lines or items.
 MOST_OF_MESSAGE, MOST_OF_SUSPECT = 600, 200
 MOST_OF_DIFFERENCE, MOST_SUSPECTS, MOST_NOTES, MOST_LINES = 24, 5, 20, 60
+# How long a line of lspcheck may be: a URI may be thousands of characters.
+LONGEST_LINE = 1000
 
 # All words that are not those of a log or of lspcheck.
 WORDS = {
@@ -134,6 +136,11 @@ def shown_content(content, most):
     return cut(visible(content[: 4 * most].rstrip(BLANKS).decode(errors="replace")), most)
 
 
+def shown_line(line):
+    """A line that lspcheck wrote."""
+    return cut(visible(line), LONGEST_LINE)
+
+
 def message_part(verdict, kept):
     content = kept.get(verdict.get("event"))
     return content and [
@@ -183,21 +190,23 @@ def suspects_part(said, lines_of, kept):
         lines += lines_of([it])
         if content := kept.get(it["event"]):
             lines.append(f"  {changes_in(content)}")
-    if len(found) > MOST_SUSPECTS:
-        lines.append(say("more lines", more=counted(len(found) - MOST_SUSPECTS, "more message")))
+    # lspcheck counts more than it lists.
+    rest = next((it["count"] for it in said if it["is"] == "suspects"), 0) - MOST_SUSPECTS
+    if found and rest > 0:
+        lines.append(say("more lines", more=counted(rest, "more message")))
     return lines and [say("suspects"), "", *block("", lines)]
 
 
 def explanation_part(said, lines_of):
     objects = [it for it in said if it["is"] not in ("note", "notes")]
-    lines = [visible(it) for it in lines_of(objects)]
+    lines = [shown_line(it) for it in lines_of(objects)]
     rest = len(lines) - MOST_LINES
     more = ["", say("more lines", more=counted(rest, "more line"))] if rest > 0 else []
     return [say("explanation"), "", *block("", lines[:MOST_LINES]), *more]
 
 
 def notes_part(notes, lines_of):
-    lines = [f"- {code(visible(it))}" for it in lines_of(notes[:MOST_NOTES])]
+    lines = [f"- {code(shown_line(it))}" for it in lines_of(notes[:MOST_NOTES])]
     rest = len(notes) - MOST_NOTES
     more = [f"- {say('more lines', more=counted(rest, 'more note'))}"] if rest > 0 else []
     return lines and [say("notes"), "", *lines, *more]

@@ -6,6 +6,7 @@ import unicodedata
 
 # How many marks may follow one character, as those above letters do. More would cover other text.
 MOST_MARKS = 3
+LONGEST_NAME = 200
 VERSION_NUMBER = re.compile(r"[0-9]+(?:\.[0-9]+)+")
 
 
@@ -50,7 +51,8 @@ def short_name(info):
     if not name:
         return None
     number = VERSION_NUMBER.search(version)
-    return visible(" ".join(filter(None, [name, number[0] if number else version])))
+    shown = " ".join(filter(None, [name, number[0] if number else version]))
+    return cut(visible(shown), LONGEST_NAME)
 
 
 def sentence_of(said):

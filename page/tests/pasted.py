@@ -262,6 +262,25 @@ def stays_text(program, place):
         assert blocks_in("\n".join(in_markdown.block("", lines))) == ([lines], ""), lines
 
 
+def is_not_too_long(program, place):
+    """However long what a log has is: URIs, names, lines of texts, and how many there are of each."""
+    uri, line = f"file:///{'u' * 8000}", "x" * 15000
+    names = {"name": "n" * 5000, "version": "v" * 5000}
+    start = b"lsp-session 2\n" + logs.frame(b"E", logs.request(1, "initialize", {"capabilities": {}, "clientInfo": names}))
+    start += logs.frame(b"S", logs.result(1, {"capabilities": {"textDocumentSync": 2}, "serverInfo": names}))
+    start += logs.frame(b"E", logs.notification("initialized", {}))
+    start += logs.frame(b"E", logs.opened(uri, 0, f"{line}\n" * 50)) + logs.snapshot(uri, 0, f"{line}\n" * 50)
+    for version in range(1, 30):
+        start += logs.frame(b"E", logs.changed(uri, version, logs.edit((version, 5000), (version, 5000), line)))
+    for at in range(40):
+        start += logs.frame(b"E", logs.notification("textDocument/didRename", {"textDocument": {"uri": uri}}))
+        start += logs.frame(b"E", logs.notification("textDocument/hover", {"textDocument": {"uri": f"{uri}{at}"}}))
+    log = written(place, "long.log", start + logs.snapshot(uri, 29, f"{line}\n" * 49))
+    text = printed(program, log)
+    assert len(text) < 20000 and max(map(len, text.split("\n"))) <= 1002, (len(text), max(map(len, text.split("\n"))))
+    assert text.startswith("**") and "and more lines" in text and "and 24 more messages" in text, text[:3000]
+
+
 def pastes_the_smallest_session(program, place):
     for log in EXAMPLES:
         wanted = smallest_of(program, log).removesuffix("\n")
@@ -318,6 +337,7 @@ TESTS = [
     tables_have_the_columns_of_each_character,
     finds_the_line_of_a_position,
     stays_text,
+    is_not_too_long,
     pastes_the_smallest_session,
     sums_up_several_logs,
     writes_pages_too,

@@ -67,7 +67,8 @@ function* runs(some, other) {
 }
 
 function clipped(line, start) {
-  const rest = visible([...line.replace(/\n$/, "")].slice(start).join(""), "\t");
+  const characters = [...line.replace(/\n$/, "")].slice(start, start + LONGEST + 1);
+  const rest = visible(characters.join(""), "\t");
   return `${start ? "…" : ""}${cut(rest, LONGEST)}`;
 }
 

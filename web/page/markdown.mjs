@@ -6,6 +6,7 @@ import { counted, cut, shortName, visible } from "./wording.mjs";
 
 const MOST_OF_MESSAGE = 600, MOST_OF_SUSPECT = 200;
 const MOST_OF_DIFFERENCE = 24, MOST_SUSPECTS = 5, MOST_NOTES = 20, MOST_LINES = 60;
+const LONGEST_LINE = 1000;
 
 // A sentence in which nothing means anything in Markdown, and the words in it that a forge takes
 // for a link all the same.
@@ -31,6 +32,11 @@ function block(kind, lines) {
 function inert(text) {
   const shown = visible(text);
   return HARMLESS.test(shown) && !LINKED.test(shown) ? shown : code(shown);
+}
+
+/** A line that lspcheck wrote. */
+function shownLine(line) {
+  return cut(visible(line), LONGEST_LINE);
 }
 
 /** A word for a shell like bash: as it is, in quotes, or with escapes for what can't be seen. */
@@ -137,8 +143,9 @@ class Markdown {
         lines.push(`  ${this.changesIn(content)}`);
       }
     }
-    const rest = found.length - MOST_SUSPECTS;
-    if (rest > 0) {
+    const count = this.said.find((it) => it.is === "suspects")?.count ?? 0;
+    const rest = count - MOST_SUSPECTS;
+    if (found.length && rest > 0) {
       lines.push(this.say("more lines", { more: counted(rest, "more message") }));
     }
     return lines.length ? [this.say("suspects"), "", ...block("", lines)] : [];
@@ -146,14 +153,14 @@ class Markdown {
 
   explanation() {
     const objects = this.said.filter((it) => it.is !== "note" && it.is !== "notes");
-    const lines = this.linesOf(objects).map((it) => visible(it)), rest = lines.length - MOST_LINES;
+    const lines = this.linesOf(objects).map(shownLine), rest = lines.length - MOST_LINES;
     return [this.say("explanation"), "", ...block("", lines.slice(0, MOST_LINES)),
       ...(rest > 0 ? ["", this.say("more lines", { more: counted(rest, "more line") })] : [])];
   }
 
   notes() {
     const { notes } = this.index, rest = notes.length - MOST_NOTES;
-    const lines = this.linesOf(notes.slice(0, MOST_NOTES)).map((it) => `- ${code(visible(it))}`);
+    const lines = this.linesOf(notes.slice(0, MOST_NOTES)).map((it) => `- ${code(shownLine(it))}`);
     const more = rest > 0 ?
       [`- ${this.say("more lines", { more: counted(rest, "more note") })}`] : [];
     return lines.length ? [this.say("notes"), "", ...lines, ...more] : [];

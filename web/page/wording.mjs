@@ -1,8 +1,8 @@
 // How texts of a log are written where no box can be drawn around odd characters, and names, as
 // page/wording.py has it.
 
-// How many marks may follow one character.
-const MOST_MARKS = 3;
+// How many marks may follow one character, and how long a name may be.
+const MOST_MARKS = 3, LONGEST_NAME = 200;
 
 function numbered(character) {
   return `[U+${character.codePointAt(0).toString(16).toUpperCase().padStart(4, "0")}]`;
@@ -38,5 +38,5 @@ export function shortName({ name, version }) {
     return null;
   }
   const number = /[0-9]+(?:\.[0-9]+)+/.exec(version ?? "")?.[0] ?? version;
-  return visible([name, number].filter(Boolean).join(" "));
+  return cut(visible([name, number].filter(Boolean).join(" ")), LONGEST_NAME);
 }
