@@ -32,7 +32,7 @@ from data import EXAMPLES, lines_of, output, written  # noqa: E402
 from expected import READ  # noqa: E402
 from window import THEMES, WIDTHS, Page, make, start  # noqa: E402
 
-FAULTS = (AssertionError, LookupError, TypeError, ValueError, OSError, subprocess.SubprocessError,
+FAULTS = (AssertionError, AttributeError, LookupError, TypeError, ValueError, OSError, subprocess.SubprocessError,
           WebDriverException)
 # Rows and their parts that may be in the tree of a page, however long the log is.
 MOST_ROWS = 150

@@ -179,7 +179,7 @@ def noisy():
 
 
 def large(events, size):
-    """A log of this many events and about this many bytes, most of which are in the answers."""
+    """A log of this many events, with about this many bytes in the answers, and half as many elsewhere."""
     return logs.long(events, lines=60, label="xy z" * (size // (events // 4) // 20 // 4))
 
 
@@ -201,5 +201,5 @@ def tests_of(window, program, place):
     yield "hides_noise", lambda: hides_noise(window(noise), program, noise)
     long = written(place, "e long.log", logs.long(3000, lines=60, label="label " * 40))
     yield "inflates_what_is_looked_at", lambda: inflates_what_is_looked_at(window(long))
-    events, size = (4000, 5_000_000) if programs.is_checked(program) else (20000, 50_000_000)
+    events, size = (4000, 4_000_000) if programs.is_checked(program) else (20000, 33_000_000)
     yield "is_quick", lambda: is_quick(window(written(place, "large.log", large(events, size)), *WHOLE))
