@@ -53,8 +53,12 @@ class Table(HTMLParser):
 
 
 def name_in(message, *path):
-    """The name in a message of the handshake, with the number in its version."""
-    found = json.loads(message or b"null")
+    """The name in a message of the handshake, with the number in its version. What is no message has
+    none: of a log without a handshake, event 2 may be a snapshot."""
+    try:
+        found = json.loads(message)
+    except ValueError:
+        return ""
     for key in path:
         found = (found or {}).get(key)
     if not found or not found.get("name"):
