@@ -236,6 +236,7 @@ def tests_of(window, program, place):
         if name == "c differs.log":
             yield "keeps_the_focus_when_parts_go", lambda wide=wide: keeps_the_focus_when_parts_go(wide)
     marks = window(written(place, "marks.log", crowded()))
-    yield "boxes_marks_that_hide_others", lambda: boxes_marks_that_hide_others(marks)
+    for test in (boxes_marks_that_hide_others, wraps):
+        yield f"{test.__name__} marks", lambda test=test: test(marks)
     long = window(written(place, "b long.log", logs.long(1000, lines=40)))
     yield "has_rows_for_the_browser", lambda: has_rows_for_the_browser(page, long)
