@@ -53,8 +53,8 @@ class Table(HTMLParser):
 
 
 def name_in(message, *path):
-    """The name in a message of the handshake, with the number in its version. What is no message has
-    none: of a log without a handshake, event 2 may be a snapshot."""
+    """The name in a message of the handshake, with the number in its version. Of a log without a
+    handshake, event 2 may be a snapshot, which has none."""
     try:
         found = json.loads(message)
     except ValueError:
