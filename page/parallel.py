@@ -7,10 +7,12 @@ import tempfile
 import time
 
 from listing import objects_in
-from program import Failed, end, printable
+from program import Failed, end, printable, status_within
 from stops import held
 
 MEGABYTE = 1_000_000
+# For how many seconds a program is waited for before anything else is done.
+STEP = 0.2
 
 
 class Line:
@@ -66,13 +68,18 @@ class Run:
 
     def wait(self):
         """Waits for the end, and shows how far the log was read. Returns the status."""
-        while True:
-            try:
-                return self.running.wait(timeout=0.2)
-            except subprocess.TimeoutExpired:
-                # The command reads from the same open file, so its place there is this one's too.
-                read = os.lseek(self.log.fileno(), 0, os.SEEK_CUR)
-                self.progress.advance(self.name, read)
+        while (status := status_within(self.running, STEP)) is None:
+            # The command reads from the same open file, so its place there is this one's too.
+            read = os.lseek(self.log.fileno(), 0, os.SEEK_CUR)
+            self.progress.advance(self.name, read)
+        return status
+
+    def status_by(self, moment):
+        """How it ended, or None if it still runs at this moment."""
+        left = max(moment - time.monotonic(), 0)
+        while (status := status_within(self.running, min(left, STEP))) is None and left > 0:
+            left = max(moment - time.monotonic(), 0)
+        return status
 
     def done(self):
         """Waits for an answer, or fails with the command's own words."""
@@ -118,8 +125,9 @@ class Runs:
 
     def __exit__(self, *_):
         self.progress.clear()
-        for run in self.runs:
-            run.close()
+        with held():
+            for run in self.runs:
+                run.close()
 
     def start(self, *words, program=None, name=None):
         """Starts a command of lspcheck, or another program that reads the log."""

@@ -52,15 +52,26 @@ def find_program(named, script):
     return os.path.abspath(found)
 
 
+def status_within(running, seconds):
+    """How a program ended, or None if it still runs after this time. Signals have to wait: one that
+    comes after Popen has taken its lock would leave it locked for ever."""
+    with held():
+        try:
+            return running.wait(seconds)
+        except subprocess.TimeoutExpired:
+            return None
+
+
 def end(running):
     """Ends a program, which first has time to end what it started."""
-    if running.poll() is None:
-        running.terminate()
-        try:
-            running.wait(PATIENCE)
-        except subprocess.TimeoutExpired:
-            running.kill()
-            running.wait()
+    with held():
+        if running.poll() is None:
+            running.terminate()
+            try:
+                running.wait(PATIENCE)
+            except subprocess.TimeoutExpired:
+                running.kill()
+                running.wait()
 
 
 def version_of(path):

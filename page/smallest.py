@@ -3,7 +3,6 @@ messages of the editor, or the log itself."""
 
 import io
 import os
-import subprocess
 import time
 from pathlib import Path
 
@@ -64,11 +63,9 @@ class Case:
 
     def log(self):
         """The bytes of the log; None if it is not found by now."""
-        try:
-            status = self.run.running.wait(max(self.until - time.monotonic(), 0))
-        except subprocess.TimeoutExpired:
+        status = self.run.status_by(self.until)
+        if status is None:
             end(self.run.running)
-            return None
         return self.run.bytes() if status == 0 else None
 
 

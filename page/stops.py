@@ -40,14 +40,15 @@ def catch():
 
 @contextmanager
 def held():
-    """Nothing is interrupted in this block, only after it."""
-    State.is_held = True
+    """Nothing is interrupted in this block, only after it, or after the one around it."""
+    was_held, State.is_held = State.is_held, True
     try:
         yield
     finally:
-        State.is_held = False
-    if State.pending is not None:
-        raise_stopped(State.pending)
+        State.is_held = was_held
+    if State.pending is not None and not was_held:
+        number, State.pending = State.pending, None
+        raise_stopped(number)
 
 
 def end_by(number):
