@@ -515,15 +515,6 @@ notes_taken terms before event edited i one start old new lt is done more =
     (notes_by_more terms before event (map edited_view (take i edited)) (edited_view one) start
     old new done more)
 
--- ---- the lines of the notes
-
-pub four_parts : {A : Type 0} (old a b c d : List A)
-    → (((old ++ a) ++ b) ++ c) ++ d ≡ old ++ (((a ++ b) ++ c) ++ d)
-four_parts old a b c d =
-    ap (λ l. (l ++ c) ++ d) (append_assoc old a b)
-    ∙ ap (λ l. l ++ d) (append_assoc old (a ++ b) c)
-    ∙ append_assoc old ((a ++ b) ++ c) d
-
 -- ---- a document that has a note
 
 -- no other one is written

@@ -8,7 +8,7 @@ use Rattle.serde_json.specs.Data.{Data}
 use Rattle.lsp_docs.specs.Calls.{Call, changes}
 use Rattle.lsp_docs.specs.Documents.{Held, Terms, documents}
 use Rattle.lsp_docs.specs.State.{Stands}
-use Rattle.lsp_facts.specs.Fact.{Fact, position_words}
+use Rattle.lsp_facts.specs.Fact.{position_words}
 use Rattle.lsp_outline.specs.Versions.{Versioned}
 use Rattle.lsp_replay.specs.Lines.{place_of}
 use Rattle.lsp_replay.specs.declared.heard.EventPlace.{EventPlace}
@@ -26,7 +26,7 @@ use Rattle.lsp_verdict.specs.Event.{calls, Event, sent_of}
 use Rattle.lsp_verdict.specs.LookBack.{each_of}
 use Rattle.lsp_verdict.specs.Offences.{kept_of, rule_at, said_at}
 use Rattle.lsp_trail.specs.Asking.{asked, numbered}
-use Rattle.lsp_notes.specs.DocumentNotes.{DocumentNote, document_line, document_note}
+use Rattle.lsp_notes.specs.DocumentNotes.{DocumentNote, document_note}
 use Rattle.lsp_notes.specs.DocumentNotes.{first_notes, notes_view, with_note}
 use Rattle.lsp_notes.specs.EditRequests.{last_requests}
 use Rattle.lsp_notes.specs.Requests.{Request, request_at_place, requests_view}
@@ -285,13 +285,6 @@ late_at terms before event =
 -- **the first change that makes edits late**
 abbrev pub lates : Terms → List Event → List DocumentNote
 lates terms events = first_notes (each_of (late_at terms) events)
-
--- the lines of these notes
-abbrev pub server_lines : List DocumentNote → List DocumentNote → List DocumentNote
-    → List DocumentNote → List Fact
-server_lines late outside overlapping unsent =
-    map document_line late ++ map document_line outside
-    ++ map document_line overlapping ++ map document_line unsent
 
 -- ---- as they are held
 

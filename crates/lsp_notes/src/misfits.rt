@@ -13,7 +13,7 @@ ghost use Rattle.lsp_notes.specs.DocumentNotes.{document_note, notes_view, with_
 ghost use Rattle.lsp_trail.specs.History.{on_document};
 ghost use Rattle.lsp_notes.specs.Misfits as spec;
 ghost use Rattle.lsp_notes.specs.Misfits.{AreMisfits, MisfitsBy, finds, found_refuted};
-ghost use Rattle.lsp_notes.specs.Misfits.{kept_found, misfit_notes};
+ghost use Rattle.lsp_notes.specs.Misfits.{kept_found};
 ghost use Rattle.lsp_facts.specs.Fact.{spaced};
 ghost use Rattle.lsp_replay.specs.Telling.{IsSeen, rule_of};
 ghost use Rattle.lsp_text.specs.Changes.{edits_of};
@@ -23,9 +23,8 @@ ghost use Rattle.lsp_types.specs.declared.rules.TheConstants as rules;
 ghost use Rattle.lsp_verdict.specs.Heard.{Heard, heard_events};
 ghost use Rattle.lsp_verdict.specs.Report.{encoding_name};
 
-use crate::document_notes::{DocumentNote, is_noted, push_lines, push_note};
+use crate::document_notes::{DocumentNote, is_noted, push_note};
 use lsp_docs::{Call, Docs, Took};
-use lsp_facts::Facts;
 use lsp_lined::Lined;
 use lsp_replay::{EventPlace, Events, Fate, Seen};
 use lsp_rpc::Result;
@@ -106,18 +105,6 @@ impl Misfits {
         let found = found_by(&held.docs, call)?;
         let place = EventPlace::last(&held.counts, seen.raw.who());
         self.note_call(place, call, found)
-    }
-
-    /// Adds the lines of the notes.
-    ///
-    /// # Errors
-    /// `Memory` where memory was refused.
-    pub(crate) fn push(&self, notes: &mut Facts) -> Result<()>
-        ensures { OnOk result ((found : List spec.Found) → AreMisfits self.now found
-            → notes.new ≡ notes.old ++ misfit_notes found) }
-    {
-        push_lines(notes, self.past_ends.as_slice())?;
-        push_lines(notes, self.range_lengths.as_slice())
     }
 
     /// Notes what a call found, the event of this place.

@@ -4,7 +4,7 @@ ghost use Rattle.std.specs.Prelude.{Some, map, option_and_then, option_map, stri
 ghost use Rattle.std.specs.List.{cons_option};
 ghost use Rattle.std.specs.Ordering.{int_eq};
 ghost use Rattle.lsp_docs.specs.Documents.{Terms};
-ghost use Rattle.lsp_notes.specs.DocumentNotes.{document_line, notes_view, with_note};
+ghost use Rattle.lsp_notes.specs.DocumentNotes.{notes_view, with_note};
 ghost use Rattle.lsp_trail.specs.Marking.{AreMarks};
 ghost use Rattle.lsp_trail.specs.Naming.{version_named, version_named_at};
 ghost use Rattle.lsp_notes.specs.Refusals as spec;
@@ -23,9 +23,8 @@ ghost use Rattle.lsp_verdict.specs.Given.{raw_view};
 ghost use Rattle.lsp_verdict.specs.Heard.{Heard, heard_events};
 ghost use Rattle.lsp_verdict.specs.Offences.{IsNoted, said_at};
 
-use crate::document_notes::{DocumentNote, is_noted, push_lines, push_note};
+use crate::document_notes::{DocumentNote, is_noted, push_note};
 use crate::requests::{Request, push_request, request_at};
-use lsp_facts::Facts;
 use lsp_lined::Lined;
 use lsp_outline::DocumentVersion;
 use lsp_replay::{EventPlace, Events, Seen};
@@ -105,17 +104,6 @@ impl Refusals {
                 )
             }
         }
-    }
-
-    /// Adds the lines of the notes.
-    ///
-    /// # Errors
-    /// `Memory` where memory was refused.
-    pub(crate) fn push(&self, notes: &mut Facts) -> Result<()>
-        ensures { OnOk result (notes.new
-            ≡ notes.old ++ map document_line (notes_view self.now.refused.items)) }
-    {
-        push_lines(notes, self.refused.as_slice())
     }
 }
 

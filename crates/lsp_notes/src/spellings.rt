@@ -1,13 +1,13 @@
 //! Which messages name a document that is not open, while one is open whose URI differs from its
 //! URI in the spelling alone.
-ghost use Rattle.std.specs.Prelude.{◌≡◌, ◌++◌, ◌∷◌, [], List, None, Some, IfOk, OnOk, map};
+ghost use Rattle.std.specs.Prelude.{◌≡◌, ◌++◌, ◌∷◌, [], List, None, Some, IfOk, OnOk};
 ghost use Rattle.std.specs.Prelude.{option_map, string_bytes};
 ghost use Rattle.std.specs.List.{find};
 ghost use Rattle.lsp_docs.specs.Calls.{Call as SpecCall};
 ghost use Rattle.lsp_docs.specs.Documents.{Terms};
 ghost use Rattle.lsp_docs.specs.State.{Stands};
 ghost use Rattle.lsp_docs.specs.Taken.{call_view};
-ghost use Rattle.lsp_notes.specs.DocumentNotes.{document_line, notes_view, with_note};
+ghost use Rattle.lsp_notes.specs.DocumentNotes.{notes_view, with_note};
 ghost use Rattle.lsp_trail.specs.Naming.{version_named_at};
 ghost use Rattle.lsp_trail.specs.Openings.{AreOpenings, on_view, ons_view};
 ghost use Rattle.lsp_notes.specs.Spellings as spec;
@@ -20,9 +20,8 @@ ghost use Rattle.lsp_verdict.specs.Heard.{Heard, heard_events};
 ghost use Rattle.lsp_verdict.specs.Given.{raw_view};
 ghost use Rattle.lsp_verdict.specs.Offences.{IsNoted, kept_of, said_at};
 
-use crate::document_notes::{DocumentNote, is_noted, push_lines, push_note};
+use crate::document_notes::{DocumentNote, is_noted, push_note};
 use lsp_docs::{Call, Docs};
-use lsp_facts::Facts;
 use lsp_lined::Lined;
 use lsp_outline::DocumentVersion;
 use lsp_replay::{EventPlace, Events, Seen};
@@ -142,17 +141,6 @@ impl Spellings {
             return Ok(());
         };
         push_note(&mut self.named, uri, words, place)
-    }
-
-    /// Adds the lines of the notes.
-    ///
-    /// # Errors
-    /// `Memory` where memory was refused.
-    pub(crate) fn push(&self, notes: &mut Facts) -> Result<()>
-        ensures { OnOk result (notes.new
-            ≡ notes.old ++ map document_line (notes_view self.now.named.items)) }
-    {
-        push_lines(notes, self.named.as_slice())
     }
 }
 
