@@ -42,6 +42,7 @@ pub use blame::{usual, usual_inside};
 pub use contents::content_facts;
 pub use documents::call_facts;
 pub use earlier::Earlier;
+pub use edges::is_past;
 pub use facts::{Facts, push_facts};
 pub use faults::{flaw_facts, frame_facts, header_facts};
 pub use laws::{
