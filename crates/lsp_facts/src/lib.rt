@@ -53,5 +53,6 @@ pub use lines::{
     push_bare_event, push_content_event, push_details, push_end_event, push_message_event,
 };
 pub use messages::{id_in, session_facts};
+pub use text_facts::push_encodings;
 pub use two_texts::{ComparedText, TwoTexts, texts_at, texts_of};
 pub use waiting::refuting;

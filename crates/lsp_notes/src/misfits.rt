@@ -2,7 +2,6 @@
 //! no rule.
 ghost use Rattle.std.specs.Prelude.{◌≡◌, ◌++◌, ◌∷◌, [], List, Some, IfOk, OnOk, option_map};
 ghost use Rattle.std.specs.Prelude.{Ok, if◌then◌else◌, pos, ℕ, string_bytes};
-ghost use Rattle.std.specs.List.{flat_map};
 ghost use Rattle.std.specs.Ordering.{int_eq};
 ghost use Rattle.lsp_docs.specs.Calls.{Call as SpecCall};
 ghost use Rattle.lsp_docs.specs.Documents.{Terms};
@@ -14,23 +13,21 @@ ghost use Rattle.lsp_trail.specs.History.{on_document};
 ghost use Rattle.lsp_notes.specs.Misfits as spec;
 ghost use Rattle.lsp_notes.specs.Misfits.{AreMisfits, MisfitsBy, finds, found_refuted};
 ghost use Rattle.lsp_notes.specs.Misfits.{kept_found};
-ghost use Rattle.lsp_facts.specs.Fact.{spaced};
 ghost use Rattle.lsp_replay.specs.Telling.{IsSeen, rule_of};
 ghost use Rattle.lsp_text.specs.Changes.{edits_of};
 ghost use Rattle.lsp_text.specs.Edits.{applied};
 ghost use Rattle.lsp_text.specs.Findings.{findings};
 ghost use Rattle.lsp_types.specs.declared.rules.TheConstants as rules;
 ghost use Rattle.lsp_verdict.specs.Heard.{Heard, heard_events};
-ghost use Rattle.lsp_verdict.specs.Report.{encoding_name};
 
 use crate::document_notes::{DocumentNote, is_noted, push_note};
 use lsp_docs::{Call, Docs, Took};
+use lsp_facts::push_encodings;
 use lsp_lined::Lined;
 use lsp_replay::{EventPlace, Events, Fate, Seen};
 use lsp_rpc::Result;
 use lsp_text::{Extent, Findings, OtherLength, PastEnd, TextFault, TextStore, change_all};
 use lsp_types::{Change, Encoding, Memory, Position, rules};
-use lsp_verdict::encoding_name;
 use std::alloc::Global;
 use std::fmt::Write;
 
@@ -325,7 +322,7 @@ fn push_fitting(words: &mut String, length: OtherLength) -> Result<()>
         return Ok(());
     }
     words.push_str(" fits")?;
-    push_names(words, names.as_slice())
+    push_encodings(words, names.as_slice())
 }
 
 /// Adds an encoding, if what was sent is the length in it.
@@ -344,24 +341,4 @@ fn is_length(sent: i32, units: u64) -> bool
     ensures { result ≡ int_eq sent (pos units) }
 {
     sent >= 0 && u64::from(sent.cast_unsigned()) == units
-}
-
-/// Adds the names of encodings.
-fn push_names(words: &mut String, encodings: &[Encoding]) -> Result<()>
-    ensures { OnOk result (string_bytes words.new ≡ string_bytes words.old
-        ++ flat_map (λ e. spaced (encoding_name (Some e))) encodings.now) }
-{
-    for encoding in encodings {
-        push_name(words, *encoding)?;
-    }
-    Ok(())
-}
-
-fn push_name(words: &mut String, encoding: Encoding) -> Result<()>
-    ensures { OnOk result (string_bytes words.new
-        ≡ string_bytes words.old ++ spaced (encoding_name (Some encoding))) }
-{
-    let name = encoding_name(Some(encoding));
-    write!(words, " {name}")?;
-    Ok(())
 }
