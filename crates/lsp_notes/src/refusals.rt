@@ -64,9 +64,6 @@ impl Refusals {
 
     /// Notes a message that is kept and says nothing of a document. The trail is of the events
     /// before it, and this is what the message names.
-    ///
-    /// # Errors
-    /// `Memory` where memory was refused; nothing is then known of what is held.
     pub(crate) fn note_message(
         &mut self,
         held: &Events<Lined>,

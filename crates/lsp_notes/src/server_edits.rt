@@ -83,9 +83,6 @@ impl ServerEdits {
     /// events before it. Usually no answer came late.
     ///
     /// It looks again for what the event says: if that were passed on, it would be copied first.
-    ///
-    /// # Errors
-    /// `Memory` where memory was refused; nothing is then known of what is held.
     #[inline(always)]
     pub(crate) fn note_call(
         &mut self,
@@ -146,9 +143,6 @@ impl ServerEdits {
 
     /// Notes a message that is kept and says nothing of a document. The trail is of the events
     /// before it, and this is what the message names.
-    ///
-    /// # Errors
-    /// `Memory` where memory was refused; nothing is then known of what is held.
     pub(crate) fn note_message(
         &mut self,
         held: &Events<Lined>,

@@ -61,9 +61,6 @@ impl Spellings {
 
     /// Notes the next event, which is kept and says this of a document. The trail is of the events
     /// before it. Usually it changes the document, which is open.
-    ///
-    /// # Errors
-    /// `Memory` where memory was refused; nothing is then known of what is held.
     #[inline(always)]
     pub(crate) fn note_call(
         &mut self,
@@ -88,9 +85,6 @@ impl Spellings {
 
     /// Notes a message that is kept and says nothing of a document. The trail is of the events
     /// before it, and this is what the message names.
-    ///
-    /// # Errors
-    /// `Memory` where memory was refused; nothing is then known of what is held.
     pub(crate) fn note_message(
         &mut self,
         held: &Events<Lined>,

@@ -44,9 +44,6 @@ impl LastChange {
     }
 
     /// Keeps what a kept event, that of this place, says about a document, if it changes it.
-    ///
-    /// # Errors
-    /// `Memory` where memory was refused; nothing is then known of what is held.
     #[inline(always)]
     pub(crate) fn keep(&mut self, place: &EventPlace, call: Call<'_>) -> Result<()>
         ensures { OnOk result (last_view self.new

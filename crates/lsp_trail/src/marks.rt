@@ -93,9 +93,6 @@ impl Marks {
 
     /// Marks what a kept event, that of this place, does to the document of a URI. Answers whether
     /// a snapshot is found equal by it.
-    ///
-    /// # Errors
-    /// `Memory` where memory was refused; nothing is then known of the marks.
     #[inline(always)]
     pub(crate) fn keep(&mut self, place: &EventPlace, uri: &str, step: &Step) -> Result<bool>
         ensures marked { OnOk result (StepsOn uri.now place.now step.now self.old.map.entries
