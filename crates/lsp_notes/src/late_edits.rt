@@ -126,10 +126,7 @@ pub(crate) fn words_since(
 fn last_of(setters: &[VersionEvent]) -> Option<VersionEvent>
     ensures { result ≡ last_setter setters.now }
 {
-    match setters.last() {
-        Some(setter) => Some(*setter),
-        None => None,
-    }
+    setters.last().copied()
 }
 
 /// The last of these answers that is on this document, and came after this message.

@@ -16,7 +16,7 @@ ghost use Rattle.lsp_replay.specs.Telling.{IsSeen, MaySpeak, Stood, kept_before,
 ghost use Rattle.lsp_rpc.specs.Ident.{id_view};
 ghost use Rattle.lsp_rpc.specs.Message.{Message as AMessage};
 ghost use Rattle.lsp_rpc.specs.Outline.{outline};
-ghost use Rattle.lsp_rpc.specs.View.{answer_view, message_view};
+ghost use Rattle.lsp_rpc.specs.View.{message_view};
 ghost use Rattle.lsp_types.specs.declared.side.Side.TheVariants.{Editor};
 ghost use Rattle.lsp_verdict.specs.Event.{Event};
 ghost use Rattle.lsp_verdict.specs.Given.{raw_view};
@@ -242,20 +242,9 @@ fn refused_id(message: &Message) -> Option<&Id>
     match message {
         Message::Response {
             id: Some(id),
-            answer,
-        } => refused_by(id, answer),
+            answer: Answer::Error { code },
+        } => if_invalid(id, *code),
         _ => None,
-    }
-}
-
-/// The id of the request that is answered so, if that refuses it for its params.
-fn refused_by<'a>(id: &'a Id, answer: &Answer) -> Option<&'a Id>
-    ensures { option_map (λ id. id_view id.now) result
-        ≡ spec.refused_by (id_view id.now) (answer_view answer.now) }
-{
-    match answer {
-        Answer::Error { code } => if_invalid(id, *code),
-        Answer::Result(_) => None,
     }
 }
 
@@ -263,15 +252,5 @@ fn if_invalid(id: &Id, code: i32) -> Option<&Id>
     ensures { option_map (λ id. id_view id.now) result
         ≡ (if int_eq code invalid_params then Some (id_view id.now) else None) }
 {
-    if is_invalid_params(code) {
-        Some(id)
-    } else {
-        None
-    }
-}
-
-fn is_invalid_params(code: i32) -> bool
-    ensures { result ≡ int_eq code invalid_params }
-{
-    code == INVALID_PARAMS
+    (code == INVALID_PARAMS).then_some(id)
 }

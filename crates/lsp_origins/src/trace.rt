@@ -146,10 +146,7 @@ fn setter_of(marks: &Marks, uri: &str) -> Result<Option<EventPlace>>
 fn last_place(setters: &[VersionEvent]) -> Option<EventPlace>
     ensures { result ≡ spec.last_place setters.now }
 {
-    match setters.last() {
-        Some(setter) => Some(setter.place),
-        None => None,
-    }
+    Some(setters.last()?.place)
 }
 
 /// Adds to the facts on a call, the event of this place, that breaks this rule, under 702 the

@@ -62,10 +62,7 @@ impl Marks {
         ensures { (terms : Terms) (events : List Event) → AreMarks terms self.now.map.entries events
             → result ≡ opened (steps terms uri.now events) }
     {
-        match self.map.get(uri) {
-            Some(mark) => mark.opened,
-            None => None,
-        }
+        self.map.get(uri)?.opened
     }
 
     /// Of the snapshots that were found equal in the standing opening of a URI, that of the
@@ -74,10 +71,7 @@ impl Marks {
         ensures { (terms : Terms) (events : List Event) → AreMarks terms self.now.map.entries events
             → result ≡ agreed (steps terms uri.now events) }
     {
-        match self.map.get(uri) {
-            Some(mark) => mark.agreed,
-            None => None,
-        }
+        self.map.get(uri)?.agreed
     }
 
     /// The places of the snapshots of a URI that wait for this version, in order.

@@ -51,11 +51,7 @@ impl Uncompared {
             ≡ spec.if_later version (uncompared_in self.now.map.entries uri.now) }
     {
         let shown = self.map.get(uri)?;
-        if version < shown.version {
-            Some(shown)
-        } else {
-            None
-        }
+        (version < shown.version).then_some(shown)
     }
 
     /// Keeps what a kept event, that of this place, leaves of a document, if it closes it, or is a
