@@ -78,8 +78,6 @@ AllGrow _ _ = ⊥
 beyond-total : (olds news : List (List Fact)) → AllGrow olds news
     → length (beyond (counts olds) news) + total olds ≡ total news
 beyond-total [] [] g = refl
-beyond-total [] (new ∷ news) g = absurd g
-beyond-total (old ∷ olds) [] g = absurd g
 beyond-total (old ∷ olds) (new ∷ news) g =
     let n = length old in
     let left = beyond (counts olds) news in
@@ -89,6 +87,7 @@ beyond-total (old ∷ olds) (new ∷ news) g =
   where
     sum : (n m d b t u : ℕ) → n ≤ m → d ≡ m - n → b + t ≡ u → (d + b) + (n + t) ≡ m + u
     sum n m d b t u less is rest = omega (arith, less, is, rest)
+beyond-total _ _ g = absurd g
 
 -- those of all kinds are all
 length-joined : (lists : List (List Fact)) → length (joined lists) ≡ total lists
@@ -231,11 +230,8 @@ name_more said all (Some m) is =
 not_yet : (stopped ready done waiting : Bool)
     → same_phase (if stopped then Stopping else (if ready then Ready else (if done then Answered
     else (if waiting then Waiting else Fresh)))) Exited ≡ false
-not_yet true ready done waiting = refl
-not_yet false true done waiting = refl
-not_yet false false true waiting = refl
 not_yet false false false true = refl
-not_yet false false false false = refl
+not_yet _ _ _ _ = refl
 
 phase_before : (ms : List Sent) → was_sent is_exit ms ≡ false → same_phase (phase ms) Exited ≡ false
 phase_before ms none =
@@ -333,8 +329,6 @@ module _ (terms : Terms) (before : List Heard) (h : Heard) where
           → (o : Option EventPlace) → abrupt_exit (numbered terms events) ≡ o
           → Grows (exit_notes (if old then None else o))
           (exit_notes (if new then None else abrupt_exit (numbered terms (heard_events after))))
-      by_refused true new is o at = least _
-      by_refused false new is None at = least _
       by_refused false new is (Some p) at =
           let none : new ≡ false =
           is ∙ ap (λ (b : Bool). is_some (if asks_shutdown h.note.event && not b
@@ -351,6 +345,7 @@ module _ (terms : Terms) (before : List Heard) (h : Heard) where
               → is_some (if b && false then rule_of terms before h else None) ≡ false
           no_test true = refl
           no_test false = refl
+      by_refused _ new is _ at = least _
 
   -- ---- all kinds
 

@@ -323,8 +323,6 @@ quiet_call terms events (snapshot uri version text) raw call kept reads says = r
   asks_none = refl;
   has_none = refl;
 }
-quiet_call terms events (message m) (broken side code) call kept reads says = absurd (cc reads)
-quiet_call terms events (message m) (show uri version text) call kept reads says = absurd (cc reads)
 quiet_call terms events (message m) (content side bytes) call kept reads says =
     let place = place_of events (message m) in
     let sents = sent_in (kept_of terms events) in
@@ -341,6 +339,7 @@ quiet_call terms events (message m) (content side bytes) call kept reads says =
           ∙ notified_has terms events uris place m.side heard.method heard.params
           heard.no_diagnostics;
     }
+quiet_call terms events (message m) _ call kept reads says = absurd (cc reads)
 
 -- no answer came late, so no change makes its edits
 no_words : (terms : Terms) (made : List Call) (uri : List ℕ) (enc : Encoding)
@@ -360,10 +359,7 @@ no_late terms before made p (changes enc kind uri number cs) none =
     (words_since terms made uri enc (recent (steps terms uri before)) answers)) none
     ∙ ap (option_map (document_note (on_document uri p)))
     (no_words terms made uri enc (recent (steps terms uri before)) _ refl)
-no_late terms before made p (opens uri number text) none = refl
-no_late terms before made p (closes uri) none = refl
-no_late terms before made p (saves uri text) none = refl
-no_late terms before made p (shows uri number text) none = refl
+no_late terms before made p _ none = refl
 
 -- **what is held stands for one more that says something of a document**, where this is late by it
 pub edits_called : (terms : Terms) (before : List Heard) (h : Heard) (old new : ServerEdits)
@@ -531,9 +527,6 @@ pub late_unchanged : (terms : Terms) (before : List Event) (made : List Call) (p
     (call : calling.Call) → ((enc : Encoding) (kind : SyncKind) (uri : Bor (List ℕ)) (number : ℤ)
     (cs : Bor (List Change)) → call ≡ saying.Changes enc kind uri number cs → ⊥)
     → late_by terms before made p (call_view call) ≡ None
-late_unchanged terms before made p (saying.Opens uri number text) not = refl
 late_unchanged terms before made p (saying.Changes enc kind uri number cs) not =
     absurd (not enc kind uri number cs refl)
-late_unchanged terms before made p (saying.Closes uri) not = refl
-late_unchanged terms before made p (saying.Saves uri text) not = refl
-late_unchanged terms before made p (saying.Shows uri number text) not = refl
+late_unchanged terms before made p _ not = refl
