@@ -61,9 +61,8 @@ abbrev pub sent_facts : Call → List Fact
 sent_facts (opens uri number text) = sends number ∷ []
 sent_facts (changes enc kind uri number edits) =
     sends number ∷ line (codes "changes" ∷ decimal (length edits) ∷ []) ∷ []
-sent_facts (closes uri) = []
-sent_facts (saves uri text) = []
 sent_facts (shows uri number text) = line (codes "version" ∷ signed_decimal number ∷ []) ∷ []
+sent_facts _ = []
 
 abbrev pub head_facts : Option EventPlace → Option Version → Call → List Fact
 head_facts set_by h call =

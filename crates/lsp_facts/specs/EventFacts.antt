@@ -207,9 +207,8 @@ content_facts rule content behind = front_facts content ++ reason_facts rule con
 
 -- the side whose event it is; a snapshot is the editor's
 abbrev pub side_by : Who → Side
-side_by who.Editor = Editor
 side_by who.Server = Server
-side_by who.Snapshot = Editor
+side_by _ = Editor
 
 abbrev pub ending_facts : List ℕ → List Fact
 ending_facts bytes =

@@ -62,8 +62,7 @@ has_exited terms before = same_phase (phase (sent_in (kept_before terms before))
 -- the event asks for the shutdown
 abbrev pub asks_shutdown : Event → Bool
 asks_shutdown (message m) = is_shutdown m.act
-asks_shutdown (fault side rule) = false
-asks_shutdown (snapshot uri number text) = false
+asks_shutdown _ = false
 
 -- the rule that is broken by a `shutdown` before the exit
 abbrev pub refused_shutdown : Terms → List Heard → Heard → Option ℕ
@@ -129,9 +128,8 @@ counts lists = map (λ (notes : List Fact). length notes) lists
 
 -- of each kind the notes beyond so many
 abbrev pub beyond : List ℕ → List (List Fact) → List Fact
-beyond [] lists = []
-beyond (n ∷ ns) [] = []
 beyond (n ∷ ns) (notes ∷ lists) = drop n notes ++ beyond ns lists
+beyond _ _ = []
 
 -- **the notes that are found at an event**: of each kind those beyond as many as there were
 abbrev pub notes_at : Terms → List Heard → Heard → List Fact

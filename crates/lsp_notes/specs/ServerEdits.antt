@@ -81,15 +81,12 @@ in_answer uris (Some r) reply = in_reply uris r reply
 
 -- the same of a message that may be no answer
 abbrev pub result_in : Message → Option Data
-result_in (request id method params) = None
-result_in (notification method params) = None
 result_in (response id (result d)) = Some d
-result_in (response id (error code)) = None
+result_in _ = None
 
 abbrev pub in_whole : List (List ℕ) → Option Request → Message → List Edited
-in_whole uris r (request id method params) = []
-in_whole uris r (notification method params) = []
 in_whole uris r (response id reply) = in_answer uris r reply
+in_whole uris r _ = []
 
 -- a request of the server that has edits made
 abbrev pub is_apply_edit : List ℕ → Bool
@@ -98,8 +95,7 @@ is_apply_edit method = bytes_eq method (codes "workspace/applyEdit")
 -- the edit among the params of a request
 abbrev pub edit_in : Message → Option Data
 edit_in (request id method params) = option_and_then (member (codes "edit")) params
-edit_in (notification method params) = None
-edit_in (response id reply) = None
+edit_in _ = None
 
 abbrev pub in_edit : List (List ℕ) → EventPlace → Option Data → List Edited
 in_edit uris p None = []
