@@ -37,14 +37,16 @@ asked_sets : (by : Side) (o : Option Ident) (rule : ℕ) (old new : Passed) → 
     → (side : Side) (k : Id) → has_passed new side (id_view k)
     ≡ unwrap_or (passes (if same_side side by then o else None) None (id_view k) rule)
     (has_passed old side (id_view k))
+asked_sets Editor None rule old new same Editor k = ap (λ p. has_passed p Editor (id_view k)) same
+asked_sets Editor None rule old new same Server k = ap (λ p. has_passed p Server (id_view k)) same
+asked_sets Server None rule old new same Editor k = ap (λ p. has_passed p Editor (id_view k)) same
+asked_sets Server None rule old new same Server k = ap (λ p. has_passed p Server (id_view k)) same
 asked_sets Editor (Some id) rule old new sets Editor k =
     sets Editor k ∙ set_true (same_id id (id_view k)) (has_passed old Editor (id_view k))
 asked_sets Editor (Some id) rule old new sets Server k = sets Server k
 asked_sets Server (Some id) rule old new sets Editor k = sets Editor k
 asked_sets Server (Some id) rule old new sets Server k =
     sets Server k ∙ set_true (same_id id (id_view k)) (has_passed old Server (id_view k))
-asked_sets _ None rule old new same Editor k = ap (λ p. has_passed p Editor (id_view k)) same
-asked_sets _ None rule old new same Server k = ap (λ p. has_passed p Server (id_view k)) same
 
 -- ---- what a message does
 
@@ -63,16 +65,22 @@ module _ (rule : ℕ) (old new : Passed) where
 -- ---- what an event does
 
 asked_alike : (side by : Side) (m : Message) → asked_from side by (outline m) ≡ asked_from side by m
+asked_alike side by (request id method params) = refl
+asked_alike side by (notification method params) = refl
 asked_alike side by (response id (result value)) = refl
-asked_alike side by _ = refl
+asked_alike side by (response id (error code)) = refl
 
 answered_alike : (m : Message) → response_id (outline m) ≡ response_id m
+answered_alike (request id method params) = refl
+answered_alike (notification method params) = refl
 answered_alike (response id (result value)) = refl
-answered_alike _ = refl
+answered_alike (response id (error code)) = refl
 
 tells_alike : (m : Message) → tells_initialized (outline m) ≡ tells_initialized m
+tells_alike (request id method params) = refl
+tells_alike (notification method params) = refl
 tells_alike (response id (result value)) = refl
-tells_alike _ = refl
+tells_alike (response id (error code)) = refl
 
 module _ (by : Side) (said : Message) (event : Event) (is : IsMessageOf by said event) where
   pub message_initialized : (same_side Editor by && tells_initialized said)
@@ -144,8 +152,10 @@ module _ (terms : Terms) (before : List Noted) (p : Passed)
     (told : unheard ≡ is_unheard terms before) where
   any_passed : (side : Side) (m : lent.Message) → has_any p side (response_id (message_view m))
       ≡ is_any_passed terms side (response_id (message_view m)) before
+  any_passed side (sends.Request id method params) = refl
+  any_passed side (sends.Notification method params) = refl
+  any_passed side (sends.Response None answer) = refl
   any_passed side (sends.Response (Some id) answer) = are side id
-  any_passed side _ = refl
 
   pub passed_late : (rule : ℕ) (by : Side) (m : lent.Message) (event : Event)
       → IsMessageOf by (message_view m) event

@@ -52,12 +52,13 @@ lines_none Causes = refl
 
 pub report_is : (listing : Listing) (found : List Offence) (bad : Option Verdict) (s : Summary)
     → all_report (is_every listing) found bad s ≡ lines_of listing found ++ closing found bad s
+report_is Every [] bad s = refl
+report_is Causes [] bad s = refl
 report_is Every (o ∷ found) bad s =
     append_assoc (flat_map offence_lines (o ∷ found)) (bad_lines bad) (found_line (o ∷ found))
 report_is Causes (o ∷ found) bad s =
     append_assoc (flat_map offence_lines (shown_of false (o ∷ found))) (bad_lines bad)
     (found_line (o ∷ found))
-report_is _ [] bad s = refl
 
 -- what is said at the end, its first lines and its last
 pub closing_is : (found : List Offence) (bad : Option Verdict) (s : Summary)
