@@ -31,8 +31,9 @@ left_out a b true d e on same = by_test a
     by_test true = refl
     by_test false = refl
 left_out true true false d e on same = absurd (cc (on refl refl))
+left_out true false false d e on same = same
 left_out false true false d e on same = refl
-left_out _ false false d e on same = same
+left_out false false false d e on same = same
 
 -- the same documents have one
 same_from : (uri : List ℕ) (front xs : List DocumentNote)
