@@ -45,9 +45,8 @@ module _ (terms : Terms) (before : List Heard) (h : Heard) where
       ap (λ b. b || has_cause (offence_at terms (notes_of before) h.note)) (by_raw h.raw lost)
     where
       by_raw : (raw : Raw) → may_lose raw rule ≡ true → may_keep raw ≡ true
-      by_raw (content side bytes) lost = refl
       by_raw (broken side by) lost = absurd (cc lost)
-      by_raw (show number uri text) lost = refl
+      by_raw _ lost = refl
 
   -- an event that is kept is no fault of the frames
   pub kept_wants : (completeness : Completeness) → rule_of terms before h ≡ None
@@ -58,10 +57,9 @@ module _ (terms : Terms) (before : List Heard) (h : Heard) where
     where
       by_raw : (raw : Raw) → IsNoted raw h.note → rule_of terms before h ≡ None
           → may_keep raw ≡ true
-      by_raw (content side bytes) noted kept = refl
       by_raw (broken side rule) noted kept =
           let same = sym (ap (λ (e : Event). rule_at terms events e) noted.0) ∙ kept in absurd (cc same)
-      by_raw (show number uri text) noted kept = refl
+      by_raw _ noted kept = refl
 
   -- one that offends and follows from none is explained
   pub cause_wants : (completeness : Completeness) (rule : ℕ) (o : Offence)

@@ -65,11 +65,10 @@ module _ (rests : Rests) (terms : Terms) (before : List Heard) (h : Heard) where
       → AllZip (Explains rests terms) (if cause then breach before h rule ∷ [] else []) said
       → said_nos said ≡ map (λ (o : Offence). o.no)
       (if cause then offence_by terms (notes_of before) h.note rule ∷ [] else [])
-  cause_no rule true [] all = absurd all
   cause_no rule true (e ∷ []) all = ap (λ (v : Verdict). v ∷ []) all.0.no_is
   cause_no rule true (e ∷ d ∷ said) all = absurd all.1
   cause_no rule false [] all = refl
-  cause_no rule false (e ∷ said) all = absurd all
+  cause_no rule _ _ all = absurd all
 
   causes_nos : (o : Option ℕ) (said : List Explained) → AllZip (Explains rests terms)
       (filter (is_cause terms) (cons_option (option_map (breach before h) o) [])) said

@@ -249,12 +249,11 @@ module _ (completeness : Completeness) (terms : Terms) (heard : List Heard) (e :
 pub nos_are : (os : List code_offence.Offence) (vs : List Verdict)
     → map offence_view os ≡ map by_itself vs → map (λ o. (offence_view o).no) os ≡ vs
 nos_are [] [] is = refl
-nos_are [] (v ∷ vs) is = absurd (cc is)
-nos_are (o ∷ os) [] is = absurd (cc is)
 nos_are (o ∷ os) (v ∷ vs) is =
     let first : offence_view o ≡ by_itself v = cc is in
     let later : map offence_view os ≡ map by_itself vs = cc is in
     λ i. ap (λ (x : Offence). x.no) first i ∷ nos_are os vs later i
+nos_are _ _ is = absurd (cc is)
 
 pub first_some : {A : Type 0} (xs : List A) (o : A) → Some o ≡ slice_get xs 0
     → (os : List A) × (xs ≡ o ∷ os)

@@ -90,8 +90,7 @@ plain_yes : (bad : Option Verdict) (flaw : List Fact) (s t : Summary)
     ≡ report (yes t)
 plain_yes None flaw s t is = append-nil (report (yes s)) ∙ ap report is
 plain_yes (Some (yes u)) flaw s t is = append-nil (report (yes u)) ∙ ap report is
-plain_yes (Some (no rule who count event)) flaw s t is = absurd cc
-plain_yes (Some (bad_log at code)) flaw s t is = absurd cc
+plain_yes _ flaw s t is = absurd cc
 
 pub yes_is_report : YesIsReport
 yes_is_report terms heard rests fault flaw t is =

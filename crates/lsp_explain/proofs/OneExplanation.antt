@@ -77,12 +77,11 @@ module _ (rests : Rests) (terms : Terms) where
   one_each : (bs : List Breach) (ds es : List Explained) → AllZip (Explains rests terms) bs ds
       → AllZip (Explains rests terms) bs es → ds ≡ es
   one_each [] [] [] p q = refl
-  one_each [] [] (e ∷ es) p q = absurd q
   one_each [] (d ∷ ds) es p q = absurd p
   one_each (b ∷ bs) [] es p q = absurd p
-  one_each (b ∷ bs) (d ∷ ds) [] p q = absurd q
   one_each (b ∷ bs) (d ∷ ds) (e ∷ es) p q =
       ap (λ x. x ∷ ds) (one_told b d e p.0 q.0) ∙ ap (λ l. e ∷ l) (one_each bs ds es p.1 q.1)
+  one_each _ _ _ p q = absurd q
 
   -- ---- what is said of it
 

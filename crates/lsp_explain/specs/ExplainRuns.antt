@@ -84,9 +84,8 @@ all_end terms heard rests fault flaw ends =
 
 -- something may have to be kept of it: nothing of a fault of the frames
 abbrev pub may_keep : Raw → Bool
-may_keep (content side bytes) = true
 may_keep (broken side rule) = false
-may_keep (show number uri text) = true
+may_keep _ = true
 
 -- there is an offence, which follows from no earlier one
 abbrev pub has_cause : Option Offence → Bool

@@ -10,10 +10,9 @@ use Rattle.lsp_text.proofs.Differing.InsideCharacter.{positions_lie_inside}
 use Rattle.lsp_docs.specs.Calls.{Text}
 
 none_where : (o : Option ℕ) (none : Bool) → is_some o ≡ not none → none ≡ is_none o
-none_where None true h = refl
 none_where None false h = absurd (true≢false (sym h))
 none_where (Some c) true h = absurd (true≢false h)
-none_where (Some c) false h = refl
+none_where _ _ h = refl
 
 inside_none : (enc : Encoding) (t : Text) (p : Position) (found : Option ℕ)
     → MatchOption found (is_some (place_of enc t p) ≡ true) (LiesInside enc t p)

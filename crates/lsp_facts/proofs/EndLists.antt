@@ -233,9 +233,8 @@ without_feed (c ∷ (d ∷ x)) alone =
     (without_feed (d ∷ x) (λ y e. alone (c ∷ y) (ap (λ (z : Text). c ∷ z) e)))
 
 abbrev second : Text → ℕ
-second [] = 0
-second (c ∷ []) = 0
 second (c ∷ (d ∷ cs)) = d
+second _ = 0
 
 pub without_return : (x : Text) → without_last (x ++ 13 ∷ []) ≡ x
 without_return [] = refl

@@ -14,4 +14,3 @@ pub mod SomeFacts
 pub mod TextsDiffer
 pub mod OneFacts
 pub mod CallBreaks
-pub mod Worked

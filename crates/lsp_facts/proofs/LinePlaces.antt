@@ -62,17 +62,6 @@ text_grows c l = refl
 at_start : (c : ℕ) (feed return before_feed : Bool) (l : Line) (ls : List Line)
     → StandsAt (rows c feed return before_feed (l ∷ ls)) 0
     (length (rows c feed return before_feed (l ∷ ls)))
-at_start c true return before_feed l ls =
-    record {
-      before = [];
-      own = ended_line c;
-      after = l ∷ ls;
-      lines = refl;
-      offset = 0;
-      place = refl;
-      inside = inl (let e : 0 < 1 = omega arith in e);
-      count = (let e : suc (length (l ∷ ls)) ≡ 1 + length (l ∷ ls) = omega arith in e);
-    }
 at_start c false true true l ls =
     record {
       before = [];
@@ -84,17 +73,6 @@ at_start c false true true l ls =
       inside = inl (omega (arith, end_grows c l));
       count = (let e : suc (length ls) ≡ 1 + length ls = omega arith in e);
     }
-at_start c false true false l ls =
-    record {
-      before = [];
-      own = ended_line c;
-      after = l ∷ ls;
-      lines = refl;
-      offset = 0;
-      place = refl;
-      inside = inl (let e : 0 < 1 = omega arith in e);
-      count = (let e : suc (length (l ∷ ls)) ≡ 1 + length (l ∷ ls) = omega arith in e);
-    }
 at_start c false false before_feed l ls =
     record {
       before = [];
@@ -105,6 +83,17 @@ at_start c false false before_feed l ls =
       place = refl;
       inside = inl (omega (arith, text_grows c l));
       count = (let e : suc (length ls) ≡ 1 + length ls = omega arith in e);
+    }
+at_start c _ _ _ l ls =
+    record {
+      before = [];
+      own = ended_line c;
+      after = l ∷ ls;
+      lines = refl;
+      offset = 0;
+      place = refl;
+      inside = inl (let e : 0 < 1 = omega arith in e);
+      count = (let e : suc (length (l ∷ ls)) ≡ 1 + length (l ∷ ls) = omega arith in e);
     }
 
 front_grows : (c : ℕ) (ls : List Line)
@@ -166,16 +155,15 @@ grown grow longer is grows (l ∷ before) own after offset n left place inside c
 -- one more character in front
 one_later : (c : ℕ) (feed return before_feed : Bool) (ls : List Line) (n left : ℕ)
     → StandsAt ls n left → StandsAt (rows c feed return before_feed ls) (suc n) left
-one_later c true return before_feed ls n left h = one_more c ls n left h
 one_later c false true true ls n left h =
     subst (λ (x : List Line). StandsAt (before_end c x) (suc n) left) (sym h.lines)
     (grown (before_end c) (longer_end c) (λ l ls. refl) (end_grows c) h.before h.own h.after
     h.offset n left h.place h.inside h.count)
-one_later c false true false ls n left h = one_more c ls n left h
 one_later c false false before_feed ls n left h =
     subst (λ (x : List Line). StandsAt (before_line (c ∷ []) x) (suc n) left) (sym h.lines)
     (grown (before_line (c ∷ [])) (longer_text c) (λ l ls. refl) (text_grows c) h.before h.own
     h.after h.offset n left h.place h.inside h.count)
+one_later c _ _ _ ls n left h = one_more c ls n left h
 
 -- the first of some lines
 first_of : (before : List Line) (own : Line) (after : List Line)

@@ -110,9 +110,8 @@ module _ (limit : ℕ) (enc : Encoding) (t : Text) where
 take_front : (n m : ℕ) (cs : List Edit) → n < m → take n (take m cs) ≡ take n cs
 take_front n zero cs lt = absurd (omega arith)
 take_front zero (suc m) [] lt = refl
-take_front zero (suc m) (c ∷ cs) lt = refl
-take_front (suc n) (suc m) [] lt = refl
 take_front (suc n) (suc m) (c ∷ cs) lt = ap (λ l. c ∷ l) (take_front n m cs (omega arith))
+take_front _ (suc m) _ lt = refl
 
 front_has : (n m : ℕ) (cs : List Edit) → n < m → slice_get (take m cs) n ≡ slice_get cs n
 front_has n zero cs lt = absurd (omega arith)
@@ -168,10 +167,7 @@ one_of_rule : (limit : ℕ) (h : Option Version) (ks : List Version) (call : Cal
 one_of_rule limit h ks (opens uri number text) rule f g p q = p ∙ sym q
 one_of_rule limit (Some v) ks (changes enc kind uri number cs) rule f g p q =
     one_of_change limit enc kind v.text cs rule f g p q
-one_of_rule limit None ks (changes enc kind uri number cs) rule f g p q = p ∙ sym q
-one_of_rule limit h ks (closes uri) rule f g p q = p ∙ sym q
-one_of_rule limit h ks (saves uri text) rule f g p q = p ∙ sym q
-one_of_rule limit h ks (shows uri number text) rule f g p q = p ∙ sym q
+one_of_rule limit _ ks _ rule f g p q = p ∙ sym q
 
 module _ (terms : Terms) (enc : Encoding) (before : List Call) (call : Call) (rule : ℕ) where
   one_details : (was_equal : Bool) (texts : Option TwoTexts) (f g : List Fact)

@@ -121,8 +121,6 @@ all_others : (ends : LineEnds) (t first : Text) (us : List Text) (ns : List Even
     → is_other ends t first ≡ true → list_any (λ u. not (same_text ends u first)) us ≡ false
     → others_of ends t ns us ≡ take (length us) ns
 all_others ends t first [] [] other alike = refl
-all_others ends t first [] (n ∷ ns) other alike = refl
-all_others ends t first (u ∷ us) [] other alike = refl
 all_others ends t first (u ∷ us) (n ∷ ns) other alike =
     let same = bytes_eq-Decides (compared_text ends u) (compared_text ends first) in
     elim (cases_Bool (same_text ends u first)) [
@@ -130,6 +128,7 @@ all_others ends t first (u ∷ us) (n ∷ ns) other alike =
           (ap (λ (l : List EventPlace). n ∷ l) (all_others ends t first us ns other (rw p at alike)))
       | inr p ↦ absurd (true≢false (rw p at alike))
     ]
+all_others ends t first _ _ other alike = refl
 
 -- so are all where one is
 pub alike_others : (ends : LineEnds) (t : Text) (ss : List (String Global)) (ns : List EventPlace)
@@ -194,9 +193,7 @@ compared_brought terms calls (opens uri number text) v is =
     ap (option_and_then (against terms calls uri)) is
 compared_brought terms calls (changes enc kind uri number edits) v is =
     ap (option_and_then (against terms calls uri)) is
-compared_brought terms calls (closes uri) v is = absurd (cc)
-compared_brought terms calls (saves uri text) v is = absurd (cc)
-compared_brought terms calls (shows uri number text) v is = absurd (cc)
+compared_brought terms calls _ v is = absurd (cc)
 
 -- so is one of a call that is neither a save nor a snapshot
 pub by_brought : (terms : Terms) (calls : List Call) (call : code.Call)
@@ -204,11 +201,9 @@ pub by_brought : (terms : Terms) (calls : List Call) (call : code.Call)
     → ((uri : Bor (List ℕ)) (number : ℤ) (text : Bor (List ℕ)) → call ≡ Shows uri number text → ⊥)
     → option_and_then (against terms calls (uri_of (call_view call)))
     (brings terms calls (call_view call)) ≡ compared terms calls (call_view call)
-by_brought terms calls (Opens uri number text) no_save no_show = refl
-by_brought terms calls (Changes enc kind uri number cs) no_save no_show = refl
-by_brought terms calls (Closes uri) no_save no_show = refl
 by_brought terms calls (Saves uri text) no_save no_show = absurd (no_save uri text refl)
 by_brought terms calls (Shows uri number text) no_save no_show = absurd (no_show uri number text refl)
+by_brought terms calls _ no_save no_show = refl
 
 pub refuting_brought : (terms : Terms) (calls : List Call) (call : Call) (v : Option Version)
     (ns others : List EventPlace) → v ≡ brings terms calls call

@@ -220,10 +220,9 @@ versioned_some make ms there good last same =
     joined : (a : Option Act.Text) (b : Option ℤ) (there : Bool) → (there && good) ≡ is_some last
         → ((is_some a && (is_some b && (there && true))) && good)
         ≡ is_some (all_three make a b last)
-    joined None b there same = refl
-    joined (Some x) None there same = refl
     joined (Some x) (Some y) true same = same ∙ sym (map_some (make x y) last)
     joined (Some x) (Some y) false same = same ∙ sym (map_some (make x y) last)
+    joined _ _ there same = refl
 
 did_open_some : Keeps (codes "textDocument/didOpen") params.did_open_at
 unfolding parts walk unescape
@@ -244,9 +243,7 @@ did_open_some d = refl
 
 regroup : (a b c d : Bool) → (a && (b && (c && d))) ≡ ((a && (b && (c && true))) && d)
 regroup true true true d = refl
-regroup true true false d = refl
-regroup true false c d = refl
-regroup false b c d = refl
+regroup _ _ _ d = refl
 
 position_some : (v : Option Data)
     → (needs kind.Object v && (sub v ([], codes "line", Must, kind.Uinteger)
@@ -264,10 +261,8 @@ span_some : {A B C D E : Type 0} (make : Option C → D → E) (pair : A → B �
     (a : Option A) (b : Option B) (c : Option D)
     → (is_some a && (is_some b && (is_some c && true)))
     ≡ is_some (both make (option_map Some (both pair a b)) c)
-span_some make pair None b c = refl
-span_some make pair (Some x) None c = refl
 span_some make pair (Some x) (Some y) None = refl
-span_some make pair (Some x) (Some y) (Some z) = refl
+span_some make pair _ _ _ = refl
 
 change_some : (d : Data)
     → is_none (wrong_in kind.Object (rows_of parts 5) d) ≡ is_some (params.change_at d)

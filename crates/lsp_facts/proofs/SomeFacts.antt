@@ -48,10 +48,8 @@ use Rattle.lsp_facts.proofs.TextsDiffer.{found_differ, none_found}
 -- ---- a message that was heard has the id and the line of the message
 
 pub id_in-outline : (m : Message) → id_in m ≡ id_in (outline m)
-id_in-outline (request id method params) = refl
-id_in-outline (notification method params) = refl
 id_in-outline (response id (result value)) = refl
-id_in-outline (response id (error code)) = refl
+id_in-outline _ = refl
 
 module _ (event : ℕ) (by : Who) (number : ℕ) where
   abbrev with_words : List ℕ → List ℕ
@@ -91,9 +89,8 @@ none_named bytes rule (inr (is, none)) = by_text (is_utf8 bytes) (read bytes) re
   where
     by_text : (text : Bool) (value : Option Data) → is_utf8 bytes ≡ text → read bytes ≡ value
         → named text value ≡ None
-    by_text false value utf8 reads = refl
-    by_text true None utf8 reads = refl
     by_text true (Some d) utf8 reads = absurd (none d (IsUtf8-from_is_utf8 bytes utf8, reads))
+    by_text _ _ utf8 reads = refl
 
 -- ---- texts that differ
 
@@ -154,9 +151,8 @@ module _ (terms : Terms) (rule : ℕ) (other : is_of_texts rule ≡ false) (ks w
   some_of_rule h (opens uri number text) e = (opening_facts terms.limit text rule, refl)
   some_of_rule h (changes enc kind uri number edits) e =
       some_of_change enc kind uri number edits h e
-  some_of_rule h (closes uri) e = ([], refl)
-  some_of_rule h (saves uri text) e = ([], refl)
   some_of_rule h (shows uri number text) e = (kept_fact ks, refl)
+  some_of_rule h _ e = ([], refl)
 
 module _ (terms : Terms) (enc : Encoding) (before : List Call) (rule : ℕ) (call : Call)
     (e : call_rule terms before call ≡ Some rule) where

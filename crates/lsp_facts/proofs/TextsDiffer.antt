@@ -168,8 +168,6 @@ module _ (terms : Terms) (before : List Call) (rule : ℕ) (of : is_of_texts rul
   saved_differs : (text : Option Text) (h : Option Version) → save_rule ends text h ≡ Some rule
       → Differ ends (option_and_then
       (λ t. recorded t (option_map (λ (v : Version). v.text) h)) text)
-  saved_differs None h e = absurd cc
-  saved_differs (Some t) None e = absurd cc
   saved_differs (Some t) (Some v) e = by_test (same_text ends v.text t) refl e
     where
       by_test : (b : Bool) → same_text ends v.text t ≡ b
@@ -182,6 +180,7 @@ module _ (terms : Terms) (before : List Call) (rule : ℕ) (of : is_of_texts rul
         λ same. true≢false (sym ((bytes_eq-Decides (compared_text ends v.text)
             (compared_text ends t)).1 same) ∙ is),
       )
+  saved_differs _ _ e = absurd cc
 
   shown_differs : (number : ℤ) (text : Text) (ks : List Version) (h : Option Version)
       → show_rule ends number text ks h ≡ Some rule

@@ -1,7 +1,7 @@
 -- The facts on a call that breaks a rule on documents: 601 to 608, 701, 702.
-use Rattle.std.specs.Prelude.{List, [], ◌∷◌, ◌++◌, slice_get, nat_lt, Bool, true, false, is_some}
+use Rattle.std.specs.Prelude.{List, [], ◌∷◌, ◌++◌, slice_get, Bool, false, is_some}
 use Rattle.std.specs.Prelude.{◌==◌}
-use Rattle.std.specs.Prelude.{if◌then◌else◌, option_map, unwrap_or, ◌≡◌, ◌⊎◌, ◌+◌, ℕ, ℤ, length}
+use Rattle.std.specs.Prelude.{if◌then◌else◌, option_map, ◌≡◌, ◌⊎◌, ◌+◌, ℕ, ℤ, length}
 use Rattle.std.specs.Prelude.{take, map, Option, Some, None, option_to_list, Result, Ok}
 use Rattle.std.specs.Prelude.{Err, codes, decimal}
 use Rattle.std.specs.Fmt.{signed_decimal}
@@ -18,6 +18,7 @@ use Rattle.lsp_types.specs.declared.rules.TheConstants as rules
 use Rattle.lsp_text.specs.Lines.{Line, lines_of}
 use Rattle.lsp_text.specs.Places.{units, place_of}
 use Rattle.lsp_text.specs.Edits.{Edit, changed, applied}
+use Rattle.lsp_text.specs.Findings.{text_extent}
 use Rattle.lsp_text.specs.Difference.{DifferFirst, position_at}
 use Rattle.lsp_text.specs.InsideCharacter.{LiesInside}
 use Rattle.lsp_text.specs.SameText.{compared, same_text}
@@ -37,16 +38,9 @@ use Rattle.lsp_facts.specs.EndsApart.{ends_apart}
 
 -- ---- the encodings in which a column lies at the edge of a character
 
--- it lies past the end of its line, or past the last line, where columns count units of the
--- encoding
-abbrev pub is_past : Text → Position → Encoding → Bool
-is_past t p enc =
-    unwrap_or (option_map (λ (l : Line). nat_lt (units enc l.text) p.column)
-    (slice_get (lines_of t) p.line)) true
-
 -- it lies in its line, and denotes a place there
 abbrev pub is_edge : Text → Position → Encoding → Bool
-is_edge t p enc = if is_past t p enc then false else is_some (place_of enc t p)
+is_edge t p enc = if is_some (text_extent enc t p) then false else is_some (place_of enc t p)
 
 abbrev pub edge_in : Text → Position → Encoding → List Encoding
 edge_in t p enc = if is_edge t p enc then enc ∷ [] else []
@@ -67,9 +61,8 @@ abbrev pub sent_facts : Call → List Fact
 sent_facts (opens uri number text) = sends number ∷ []
 sent_facts (changes enc kind uri number edits) =
     sends number ∷ line (codes "changes" ∷ decimal (length edits) ∷ []) ∷ []
-sent_facts (closes uri) = []
-sent_facts (saves uri text) = []
 sent_facts (shows uri number text) = line (codes "version" ∷ signed_decimal number ∷ []) ∷ []
+sent_facts _ = []
 
 abbrev pub head_facts : Option EventPlace → Option Version → Call → List Fact
 head_facts set_by h call =

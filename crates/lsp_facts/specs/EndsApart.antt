@@ -32,10 +32,9 @@ are_converted from to es fs =
 
 -- **the kinds of two texts' line ends, where each text has one kind, as often as the other**
 abbrev pub conversion_of : List Text → List Text → Option Conversion
-conversion_of [] fs = None
-conversion_of (e ∷ es) [] = None
 conversion_of (e ∷ es) (f ∷ fs) =
     then_some (are_converted e f es fs) (record { from = e; to = f })
+conversion_of _ _ = None
 
 -- ---- the end of a text
 

@@ -25,15 +25,10 @@ use Rattle.lsp_verdict.specs.Heard.{Rests, behind_at, rest_of}
 use Rattle.lsp_verdict.specs.Placed as placed
 use Rattle.lsp_verdict.specs.Placed.{Raw, broken, show}
 use Rattle.lsp_frame.specs.Front.{shown_bytes, header_front}
-use Rattle.lsp_frame.specs.Bounds.{Bounds}
-use Rattle.lsp_frame.specs.declared.format.Format.{Format}
 use Rattle.lsp_types.specs.declared.rules.TheConstants as rules
 use Rattle.lsp_types.specs.declared.side.Side.{Side}
 use Rattle.lsp_types.specs.declared.side.Side.TheVariants.{Editor, Server}
 use Rattle.lsp_types.specs.declared.position.Encoding.TheVariants.{Utf16}
-use Rattle.lsp_log.specs.Log.{Record}
-use Rattle.lsp_log.specs.Place.{place_of, found_behind}
-use Rattle.lsp_log.specs.declared.fault.LogCode.{LogCode}
 use Rattle.lsp_docs.specs.Calls.{Call}
 use Rattle.lsp_docs.specs.Documents.{Terms}
 use Rattle.lsp_facts.specs.Fact.{Fact, in_phase, more_words, spaced, content_message}
@@ -212,9 +207,8 @@ content_facts rule content behind = front_facts content ++ reason_facts rule con
 
 -- the side whose event it is; a snapshot is the editor's
 abbrev pub side_by : Who → Side
-side_by who.Editor = Editor
 side_by who.Server = Server
-side_by who.Snapshot = Editor
+side_by _ = Editor
 
 abbrev pub ending_facts : List ℕ → List Fact
 ending_facts bytes =
@@ -238,12 +232,6 @@ flaw_facts number place found =
     ∷ line (codes "byte" ∷ decimal place ∷ [])
     ∷ line (codes "found" ∷ quoted (text_front found) ∷ [])
     ∷ []
-
-abbrev pub log_facts : Bounds → List ℕ → Option Format → List Record → Option (ℕ × LogCode)
-    → List Fact
-log_facts limits log format records None = []
-log_facts limits log format records (Some (number, code)) =
-    flaw_facts number (place_of format records) (found_behind limits format records log)
 
 -- ---- any event that offends
 

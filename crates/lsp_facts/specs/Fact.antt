@@ -227,8 +227,7 @@ content_event event by number None = bare_event event by number
 abbrev pub event_line : ℕ → Who → ℕ → Raw → List ℕ
 event_line event by number (content side bytes) =
     content_event event by number (content_message bytes)
-event_line event by number (broken side rule) = bare_event event by number
-event_line event by number (show version uri text) = bare_event event by number
+event_line event by number _ = bare_event event by number
 
 -- the place after the last event, and whose the next one would be
 abbrev pub end_event : ℕ → Who → List ℕ
@@ -274,8 +273,7 @@ usual_inside rest by = if may_go_on rest then codes "recorder" else who_name by
 -- that of a No; that of a log is the recorder's
 abbrev pub usual_of : Verdict → List ℕ
 usual_of (no rule by count event) = usual rule by
-usual_of (bad_log at code) = codes "recorder"
-usual_of (yes s) = codes "recorder"
+usual_of _ = codes "recorder"
 
 -- **the facts, whose fault it usually is**, by them or by the rule, **and what they mean together**
 abbrev pub detail_lines : List Fact → List ℕ → List ℕ

@@ -31,8 +31,7 @@ first_other ends t us = find (is_other ends t) us
 abbrev pub others_of : LineEnds → Text → List EventPlace → List Text → List EventPlace
 others_of ends t (p ∷ ps) (u ∷ us) =
     if is_other ends t u then p ∷ others_of ends t ps us else others_of ends t ps us
-others_of ends t (p ∷ ps) [] = []
-others_of ends t [] us = []
+others_of ends t _ _ = []
 
 -- ---- calls
 

@@ -1,6 +1,7 @@
 //! The encodings in which a column lies at the edge of a character.
-ghost use Rattle.std.specs.Prelude.{◌≡◌, ◌++◌, IfOk, OnOk};
+ghost use Rattle.std.specs.Prelude.{◌≡◌, ◌++◌, IfOk, OnOk, is_some};
 ghost use Rattle.std.specs.Str.{chars};
+ghost use Rattle.lsp_text.specs.Findings.{text_extent};
 ghost use Rattle.lsp_facts.specs.DocumentFacts as spec;
 
 use lsp_rpc::Result;
@@ -38,15 +39,15 @@ fn push_edge(
 fn is_edge(text: &str, position: Position, encoding: Encoding) -> bool
     ensures { result ≡ spec.is_edge (chars text.now) position encoding }
 {
-    if is_past(text, position, encoding) {
+    if is_past(text, encoding, position) {
         return false;
     }
     char_inside(text, encoding, position).is_none()
 }
 
 /// Whether a position lies past the end of its line, or past the last line.
-fn is_past(text: &str, position: Position, encoding: Encoding) -> bool
-    ensures { result ≡ spec.is_past (chars text.now) position encoding }
+pub fn is_past(text: &str, encoding: Encoding, position: Position) -> bool
+    ensures { result ≡ is_some (text_extent encoding (chars text.now) position) }
 {
     match line_at(text, position.line) {
         Some(line) => width_of(line, encoding) < position.column as u64,

@@ -230,9 +230,6 @@ fn is_whole(place: Place, opened: &[Around]) -> bool
 
 /// How many bytes of a text come before the first one that a JSON text does not allow there, all if
 /// it ends too early.
-///
-/// # Errors
-/// `Memory` where memory was refused.
 pub(crate) fn json_break(alloc: Global, text: &[u8]) -> Result<Option<usize>>
     ensures place { IfOk result (λ place. place ≡ spec.json_break text.now) }
     ensures within { IfOk result (λ place. IfSome place (λ n. n ≤ length text.now)) }
@@ -287,9 +284,6 @@ fn walk_over(opened: &mut Vec<Around>, from: Place, bytes: &[u8]) -> Result<Walk
 }
 
 /// How many of the bytes behind a content its JSON text has, if it ends there.
-///
-/// # Errors
-/// `Memory` where memory was refused.
 pub(crate) fn more_of_text(alloc: Global, content: &[u8], behind: &[u8]) -> Result<Option<usize>>
     ensures more { IfOk result (λ more. more ≡ whole.missing content.now behind.now) }
     ensures within { IfOk result (λ more. IfSome more (λ n. n ≤ length behind.now)) }

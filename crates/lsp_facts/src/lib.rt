@@ -42,6 +42,7 @@ pub use blame::{usual, usual_inside};
 pub use contents::content_facts;
 pub use documents::call_facts;
 pub use earlier::Earlier;
+pub use edges::is_past;
 pub use facts::{Facts, push_facts};
 pub use faults::{flaw_facts, frame_facts, header_facts};
 pub use laws::{
@@ -52,5 +53,6 @@ pub use lines::{
     push_bare_event, push_content_event, push_details, push_end_event, push_message_event,
 };
 pub use messages::{id_in, session_facts};
+pub use text_facts::push_encodings;
 pub use two_texts::{ComparedText, TwoTexts, texts_at, texts_of};
 pub use waiting::refuting;

@@ -61,9 +61,6 @@ pub(crate) fn shown(bytes: &[u8], most: usize) -> &str
 
 /// How some bytes begin, as far as that is UTF-8: those of a content, of a header part, or of a
 /// stream that ends inside a frame (107).
-///
-/// # Errors
-/// `Memory` where memory was refused.
 pub(crate) fn front_facts(alloc: Global, bytes: &[u8]) -> Result<Facts>
     ensures { IfOk result (λ facts. facts ≡ spec.front_facts bytes.now) }
 {

@@ -242,9 +242,6 @@ fn blamed_by<'a>(rows: &[Row], facts: &Facts, usual: &'a str) -> &'a str
 }
 
 /// Adds the line of the sentence that a row has for the facts, if one does.
-///
-/// # Errors
-/// `Memory` where memory was refused.
 pub(crate) fn push_sentence(lines: &mut String, facts: &Facts) -> Result<()>
     ensures { OnOk result (string_bytes lines.new
         ≡ string_bytes lines.old ++ so_lines facts.now) }

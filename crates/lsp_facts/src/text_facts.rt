@@ -108,7 +108,8 @@ impl Facts {
         if names.is_empty() {
             return Ok(());
         }
-        let words = encoding_words(self.alloc(), key, names)?;
+        let mut words = String::from_str(self.alloc(), key)?;
+        push_encodings(&mut words, names)?;
         self.push_end(words)
     }
 
@@ -168,16 +169,18 @@ impl Facts {
     }
 }
 
-/// Encodings after their key.
-fn encoding_words(alloc: Global, key: &str, names: &[Encoding]) -> Result<String>
-    ensures { IfOk result (λ words. string_bytes words ≡ key.now
-        ++ flat_map (λ e. spaced (encoding_name (Some e))) names.now) }
+/// Adds the names of encodings.
+///
+/// # Errors
+/// `Memory` where memory was refused.
+pub fn push_encodings(words: &mut String, encodings: &[Encoding]) -> Result<()>
+    ensures { OnOk result (string_bytes words.new ≡ string_bytes words.old
+        ++ flat_map (λ e. spaced (encoding_name (Some e))) encodings.now) }
 {
-    let mut words = String::from_str(alloc, key)?;
-    for encoding in names {
-        push_encoding(&mut words, *encoding)?;
+    for encoding in encodings {
+        push_encoding(words, *encoding)?;
     }
-    Ok(words)
+    Ok(())
 }
 
 /// Adds the number of a character, or that there is none.

@@ -21,8 +21,7 @@ Cut words n bytes =
 
 space : (place : Place) (byte : ℕ) → ends_word place byte ≡ true → byte ≡ 32
 space Outside byte is = eqb-true byte 32 is
-space Inside byte is = absurd (cc is)
-space Escaped byte is = absurd (cc is)
+space _ byte is = absurd (cc is)
 
 abbrev len_if : Bool → ℕ → ℕ
 len_if ends n = if ends then 0 else suc n

@@ -16,8 +16,7 @@ place_after Escaped byte = Inside
 -- a space outside of JSON texts ends a word
 abbrev pub ends_word : Place → ℕ → Bool
 ends_word Outside byte = byte == 32
-ends_word Inside byte = false
-ends_word Escaped byte = false
+ends_word _ byte = false
 
 abbrev pub words_from : Place → List ℕ → Words
 words_from place [] = [] ∷ []

@@ -9,9 +9,6 @@ use crate::field::{Field, first_field, word_at};
 use lsp_rpc::{Result, push_quoted};
 
 /// Adds the members of these words, which the fields of a pattern take.
-///
-/// # Errors
-/// `Memory` where memory was refused.
 pub(crate) fn push_members(object: &mut String, pattern: &str, words: &[&str]) -> Result<()>
     ensures { OnOk result (string_bytes object.new ≡ string_bytes object.old
         ++ flat_map member (spec.members_of (fields_of pattern.now) (map word_view words.now))) }

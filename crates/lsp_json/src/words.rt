@@ -15,9 +15,6 @@ pub(crate) enum Place {
 }
 
 /// The words of a line: there is a space between each two, and a JSON text is one word.
-///
-/// # Errors
-/// `Memory` where memory was refused.
 pub(crate) fn words_in<'a>(alloc: Global, line: &'a str) -> Result<Vec<&'a str>>
     ensures { IfOk result (λ words. map (λ word. word.now) words.items ≡ spec.words_in line.now) }
 {

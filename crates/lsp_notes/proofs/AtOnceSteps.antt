@@ -4,7 +4,7 @@ use Rattle.std.specs.Cmp.{IsStrictWeakOrder}
 use Rattle.std.specs.Str.{chars, IsUtf8}
 use Rattle.std.proofs.Common.{◌≡◌, ◌≤◌, ◌<◌, ◌+◌, ◌-◌, ℕ, Bool, true, false, List, [], ◌∷◌, ◌++◌}
 use Rattle.std.proofs.Common.{Option, Some, None, refl, sym, ap, ◌∙◌, arith, append_assoc}
-use Rattle.std.proofs.Common.{append-nil, drop, get_or, length, subst, take, ⊎_elim}
+use Rattle.std.proofs.Common.{drop, get_or, length, subst, take, ⊎_elim}
 use Rattle.std.proofs.lemmas.Bool.Decides.{nat_tests}
 use Rattle.std.proofs.lemmas.List.{drop_all, drop_at, drop_more, length-take-le, take_all}
 use Rattle.std.proofs.lemmas.Str.{IsUtf8-append, IsUtf8-drop, IsUtf8-nil, IsUtf8-take, chars-append}
@@ -196,10 +196,6 @@ module _ (enc : Encoding) (t : Text) (found : List Splice) (e : Edit) (more : Li
           → found_all (found ++ s ∷ []) o ≡ found_all found (and_splices o s)
       by_more None = refl
       by_more (Some ss) = ap (λ (l : List Splice). Some (in_order l)) (append_assoc found (s ∷ []) ss)
-
--- none is left
-pub all_found : (found : List Splice) → Some (in_order found) ≡ found_all found (Some [])
-all_found found = ap (λ (l : List Splice). Some (in_order l)) (sym (append-nil found))
 
 -- stretches in their order
 pub ordered : IsStrictWeakOrder is_first

@@ -77,45 +77,40 @@ pub has_request : (terms : Terms) (before : List Event) (uris : List (List ℕ))
 has_request terms before uris p (request own name params) id method same =
     let is : name ≡ method = cc same in
     ap (λ n. in_request uris p n params) is
-has_request terms before uris p (notification name params) id method same = absurd (cc same)
 has_request terms before uris p (response own (result d)) id method same = absurd (cc same)
-has_request terms before uris p (response own (error code)) id method same = absurd (cc same)
+has_request terms before uris p _ id method same = absurd (cc same)
 
 pub is_request_so : (m : Message) (id : Ident) (method : List ℕ)
     → outline m ≡ request id method None → is_request m ≡ true
 is_request_so (request own name params) id method same = refl
-is_request_so (notification name params) id method same = absurd (cc same)
 is_request_so (response own (result d)) id method same = absurd (cc same)
-is_request_so (response own (error code)) id method same = absurd (cc same)
+is_request_so _ id method same = absurd (cc same)
 
 -- the edit among its params
 pub edit_of_request : (m : Message) → is_request m ≡ true
     → edit_in m ≡ option_and_then (member (codes "edit")) (params_of m)
 edit_of_request (request own name params) is = refl
-edit_of_request (notification name params) is = absurd (cc is)
-edit_of_request (response own reply) is = absurd (cc is)
+edit_of_request _ is = absurd (cc is)
 
 -- a notification
 pub has_notification : (terms : Terms) (before : List Event) (uris : List (List ℕ))
     (p : EventPlace) (m : Message) (method : List ℕ) → outline m ≡ notification method None
     → in_diagnostics p (version_named Server m) ≡ edited_in_message terms before uris p m
-has_notification terms before uris p (request own name params) method same = absurd (cc same)
 has_notification terms before uris p (notification name params) method same = refl
 has_notification terms before uris p (response own (result d)) method same = absurd (cc same)
-has_notification terms before uris p (response own (error code)) method same = absurd (cc same)
+has_notification terms before uris p _ method same = absurd (cc same)
 
 -- an answer
 pub has_answer : (terms : Terms) (before : List Event) (uris : List (List ℕ)) (p : EventPlace)
     (m : Message) (id : Option Ident) (reply : Reply) → outline m ≡ response id reply
     → edited_in_message terms before uris p m ≡ in_whole uris (answered terms before id) m
-has_answer terms before uris p (request own name params) id reply same = absurd (cc same)
-has_answer terms before uris p (notification name params) id reply same = absurd (cc same)
 has_answer terms before uris p (response own (result d)) id reply same =
     let is : own ≡ id = cc same in
     ap (λ o. in_answer uris (answered terms before o) (result d)) is
 has_answer terms before uris p (response own (error code)) id reply same =
     let is : own ≡ id = cc same in
     ap (λ o. in_answer uris (answered terms before o) (error code)) is
+has_answer terms before uris p _ id reply same = absurd (cc same)
 
 -- to no request that edits answer
 pub none_answered : (uris : List (List ℕ)) (m : Message) → in_whole uris None m ≡ []
@@ -140,9 +135,8 @@ asks_edits p (request own name params) id method named same are =
     ap (request_named p name)
     (sym (ap (option_map (λ (v : Versioned). v.uri)) are ∙ editor_names (request own name params)))
     ∙ ap (λ n. request_named p n (option_map (λ (v : Versioned). v.uri) named)) is
-asks_edits p (notification name params) id method named same are = absurd (cc same)
 asks_edits p (response own (result d)) id method named same are = absurd (cc same)
-asks_edits p (response own (error code)) id method named same are = absurd (cc same)
+asks_edits p _ id method named same are = absurd (cc same)
 
 module _ (p : EventPlace) (method : List ℕ) (named : Option (List ℕ)) where
   abbrev asked_by : Bool → Bool → Option Request
@@ -170,13 +164,10 @@ pub asks_nothing : (p : EventPlace) (m : Message) (said : lent.Message)
     → request_of p Editor m ≡ None
 asks_nothing p m (lents.Request id method params) same not = absurd (not id method params refl)
 asks_nothing p (request own name ps) (lents.Notification method params) same not = absurd (cc same)
-asks_nothing p (notification name ps) (lents.Notification method params) same not = refl
-asks_nothing p (response own reply) (lents.Notification method params) same not = refl
 asks_nothing p (request own name ps) (lents.Response id reply) same not = by_reply reply same
   where
     by_reply : (a : Answer) → outline (request own name ps)
         ≡ outline (message_view (lents.Response id a)) → request_of p Editor (request own name ps) ≡ None
     by_reply (answers.Result v) is = absurd (cc is)
     by_reply (answers.Error code) is = absurd (cc is)
-asks_nothing p (notification name ps) (lents.Response id reply) same not = refl
-asks_nothing p (response own re) (lents.Response id reply) same not = refl
+asks_nothing p _ _ same not = refl

@@ -15,5 +15,3 @@ pub mod NotedSteps
 pub mod NoteLines
 pub mod NotesByKind
 pub mod NoteNumbers
-pub mod AtOnceWorked
-pub mod NotesWorked

@@ -88,7 +88,6 @@ module _ (terms : Terms) (before : List Call) (p : EventPlace) where
   pub quiet_call : (call : Call) (took : Took) → took ≡ took_by terms before call
       → ((found : Findings) → took ≡ Changed found → ⊥)
       → IsQuiet (finds p call (findings_of terms before call))
-  quiet_call (opens uri number text) took is not = none_quiet
   quiet_call (changes enc kind uri number cs) took is not =
       let nothing = quiet_found (findings_of terms before (changes enc kind uri number cs)) took
       (sym is) not in
@@ -96,9 +95,7 @@ module _ (terms : Terms) (before : List Call) (p : EventPlace) where
         past_end = ap (option_map _) nothing.0;
         range_length = ap (option_map _) nothing.1;
       }
-  quiet_call (closes uri) took is not = none_quiet
-  quiet_call (saves uri text) took is not = none_quiet
-  quiet_call (shows uri number text) took is not = none_quiet
+  quiet_call _ took is not = none_quiet
 
   changed_is : (f found : Findings) → Changed found ≡ took_found f → found ≡ f
   changed_is f found is = by_test (is_none f.past_end && is_none f.range_length) is
@@ -110,13 +107,10 @@ module _ (terms : Terms) (before : List Call) (p : EventPlace) where
   -- one that says something of them says what they find
   pub told_call : (call : Call) (found : Findings) → Changed found ≡ took_by terms before call
       → finds p call found ≡ finds p call (findings_of terms before call)
-  told_call (opens uri number text) found is = refl
   told_call (changes enc kind uri number cs) found is =
       ap (finds p (changes enc kind uri number cs))
       (changed_is (findings_of terms before (changes enc kind uri number cs)) found is)
-  told_call (closes uri) found is = refl
-  told_call (saves uri text) found is = refl
-  told_call (shows uri number text) found is = refl
+  told_call _ found is = refl
 
 -- ---- an event
 
@@ -240,8 +234,5 @@ module _ (c : code.Call) (not : (enc : Encoding) (kind : SyncKind) (uri : Bor (L
       by_call : (c : code.Call) → ((enc : Encoding) (kind : SyncKind) (uri : Bor (List ℕ))
           (number : ℤ) (cs : Bor (List Change)) → c ≡ Changes enc kind uri number cs → ⊥)
           → nothing ≡ findings_of terms before (call_view c)
-      by_call (Opens uri number text) not = refl
       by_call (Changes enc kind uri number cs) not = absurd (not enc kind uri number cs refl)
-      by_call (Closes uri) not = refl
-      by_call (Saves uri text) not = refl
-      by_call (Shows uri number text) not = refl
+      by_call _ not = refl

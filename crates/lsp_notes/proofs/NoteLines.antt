@@ -183,10 +183,9 @@ AreAllNotes [] = Unit {0}
 AreAllNotes (xs ∷ xss) = AreNotes xs × AreAllNotes xss
 
 pub notes_beyond : (ns : List ℕ) (xss : List (List Fact)) → AreAllNotes xss → AreNotes (beyond ns xss)
-notes_beyond [] xss a = tt
-notes_beyond (n ∷ ns) [] a = tt
 notes_beyond (n ∷ ns) (xs ∷ xss) a =
     notes_append (drop n xs) (beyond ns xss) (notes_drop n xs a.0) (notes_beyond ns xss a.1)
+notes_beyond _ _ a = tt
 
 -- ---- notes on documents
 
@@ -243,9 +242,8 @@ due_firsts before (n ∷ ns) a =
     (holds_unless IsDue _ (Some n) a.0) (due_firsts (before ++ n ∷ []) ns a.1)
 
 due_take : (k : ℕ) (ns : List DocumentNote) → AreDue ns → AreDue (take k ns)
-due_take zero ns a = tt
-due_take (suc k) [] a = tt
 due_take (suc k) (n ∷ ns) a = (a.0, due_take k ns a.1)
+due_take _ _ a = tt
 
 pub due_first : (ns : List DocumentNote) → AreDue ns → AreDue (first_notes ns)
 due_first ns a = due_take 64 (each_from if_first [] ns) (due_firsts [] ns a)

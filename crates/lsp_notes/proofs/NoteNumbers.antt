@@ -49,7 +49,8 @@ use Rattle.lsp_trail.specs.SessionNotes.{Misused, abrupt, abrupt_by, abrupt_exit
 use Rattle.lsp_trail.specs.SessionNotes.{misuse_at, misuses, misuses_after, older_in, with_misuse}
 use Rattle.lsp_trail.specs.SessionNotes.{has_method}
 use Rattle.lsp_notes.specs.Spellings.{spelling_at, spellings}
-use Rattle.lsp_notes.proofs.NotedSteps.{found_along-push, refused-push, sound-push}
+use Rattle.lsp_notes.proofs.NotedSteps.{all_added, found_along-push, joined, refused-push}
+use Rattle.lsp_notes.proofs.NotedSteps.{sound-push}
 use Rattle.lsp_trail.proofs.SessionSteps.{sents-numbered}
 
 least : (n : ℕ) → 0 ≤ n
@@ -77,8 +78,6 @@ AllGrow _ _ = ⊥
 beyond-total : (olds news : List (List Fact)) → AllGrow olds news
     → length (beyond (counts olds) news) + total olds ≡ total news
 beyond-total [] [] g = refl
-beyond-total [] (new ∷ news) g = absurd g
-beyond-total (old ∷ olds) [] g = absurd g
 beyond-total (old ∷ olds) (new ∷ news) g =
     let n = length old in
     let left = beyond (counts olds) news in
@@ -88,27 +87,13 @@ beyond-total (old ∷ olds) (new ∷ news) g =
   where
     sum : (n m d b t u : ℕ) → n ≤ m → d ≡ m - n → b + t ≡ u → (d + b) + (n + t) ≡ m + u
     sum n m d b t u less is rest = omega (arith, less, is, rest)
+beyond-total _ _ g = absurd g
 
--- those of all kinds, and those that only the end knows, are all
-all_are : (a b c d p r f s w x y z u : List Fact)
-    → (length a + (length b + (length c + (length d + (length p + (length r + (length f
-    + (length s + (length w + (length x + (length y + (length z + 0)))))))))))) + length u
-    ≡ length (a ++ b ++ c ++ d ++ u ++ (p ++ r) ++ f ++ s ++ (w ++ x ++ y ++ z))
-all_are a b c d p r f s w x y z u = omega (
-  arith,
-  length-append (a ++ b ++ c ++ d ++ u ++ (p ++ r) ++ f ++ s) (w ++ x ++ y ++ z),
-  length-append (a ++ b ++ c ++ d ++ u ++ (p ++ r) ++ f) s,
-  length-append (a ++ b ++ c ++ d ++ u ++ (p ++ r)) f,
-  length-append (a ++ b ++ c ++ d ++ u) (p ++ r),
-  length-append (a ++ b ++ c ++ d) u,
-  length-append (a ++ b ++ c) d,
-  length-append (a ++ b) c,
-  length-append a b,
-  length-append p r,
-  length-append (w ++ x ++ y) z,
-  length-append (w ++ x) y,
-  length-append w x,
-)
+-- those of all kinds are all
+length-joined : (lists : List (List Fact)) → length (joined lists) ≡ total lists
+length-joined [] = refl
+length-joined (notes ∷ lists) =
+    length-append notes (joined lists) ∙ ap (λ k. length notes + k) (length-joined lists)
 
 -- ---- notes on documents
 
@@ -245,11 +230,8 @@ name_more said all (Some m) is =
 not_yet : (stopped ready done waiting : Bool)
     → same_phase (if stopped then Stopping else (if ready then Ready else (if done then Answered
     else (if waiting then Waiting else Fresh)))) Exited ≡ false
-not_yet true ready done waiting = refl
-not_yet false true done waiting = refl
-not_yet false false true waiting = refl
 not_yet false false false true = refl
-not_yet false false false false = refl
+not_yet _ _ _ _ = refl
 
 phase_before : (ms : List Sent) → was_sent is_exit ms ≡ false → same_phase (phase ms) Exited ≡ false
 phase_before ms none =
@@ -347,8 +329,6 @@ module _ (terms : Terms) (before : List Heard) (h : Heard) where
           → (o : Option EventPlace) → abrupt_exit (numbered terms events) ≡ o
           → Grows (exit_notes (if old then None else o))
           (exit_notes (if new then None else abrupt_exit (numbered terms (heard_events after))))
-      by_refused true new is o at = least _
-      by_refused false new is None at = least _
       by_refused false new is (Some p) at =
           let none : new ≡ false =
           is ∙ ap (λ (b : Bool). is_some (if asks_shutdown h.note.event && not b
@@ -365,6 +345,7 @@ module _ (terms : Terms) (before : List Heard) (h : Heard) where
               → is_some (if b && false then rule_of terms before h else None) ≡ false
           no_test true = refl
           no_test false = refl
+      by_refused _ new is _ at = least _
 
   -- ---- all kinds
 
@@ -451,8 +432,25 @@ none_yet terms = refl
 pub all_counted : (v : Verdict) (n : Noticed)
     → total (kinds n) + length (uncompared v n.unshown) ≡ length (notes_by v n)
 all_counted v n =
-    all_are (map misuse_line (misuses n.said)) (exit_notes n.exit) (name_notes (name_of n.said))
-    (old_name_notes (renamed n.said)) (map document_line (past_ends n.found))
-    (map document_line (range_lengths n.found)) (map document_line n.refused)
-    (map document_line n.spelled) (map document_line n.late) (map document_line n.outside)
-    (map document_line n.overlapping) (map document_line n.unsent) (uncompared v n.unshown)
+    let ending = uncompared v n.unshown in
+    moved (length (map misuse_line (misuses n.said))) (length (exit_notes n.exit))
+    (length (name_notes (name_of n.said))) (length (old_name_notes (renamed n.said)))
+    (length ending) (total on_documents)
+    ∙ sym (length-joined (all ending))
+    ∙ ap length (sym (all_added [] (all ending)))
+  where
+    on_documents : List (List Fact)
+    on_documents =
+        map document_line (past_ends n.found) ∷ map document_line (range_lengths n.found)
+        ∷ map document_line n.refused ∷ map document_line n.spelled ∷ map document_line n.late
+        ∷ map document_line n.outside ∷ map document_line n.overlapping
+        ∷ map document_line n.unsent ∷ []
+
+    all : List Fact → List (List Fact)
+    all ending =
+        map misuse_line (misuses n.said) ∷ exit_notes n.exit ∷ name_notes (name_of n.said)
+        ∷ old_name_notes (renamed n.said) ∷ ending ∷ on_documents
+
+    moved : (a b c d e rest : ℕ)
+        → (a + (b + (c + (d + rest)))) + e ≡ a + (b + (c + (d + (e + rest))))
+    moved a b c d e rest = omega arith

@@ -347,25 +347,16 @@ pub noted_length : (items : List code_notes.DocumentNote) (notes : List Document
 noted_length items notes are =
     sym (length-map items note_view) ∙ ap length are ∙ sym (length-map notes document_line)
 
--- of nine kinds
-pub nine : (old a b c d e f g h k : List Fact)
-    → ((((((((old ++ a) ++ b) ++ c) ++ d) ++ e) ++ f) ++ g) ++ h) ++ k
-    ≡ old ++ (a ++ (b ++ (c ++ (d ++ (e ++ (f ++ (g ++ (h ++ k))))))))
-nine old a b c d e f g h k =
-    append_assoc (((((((old ++ a) ++ b) ++ c) ++ d) ++ e) ++ f) ++ g) h k
-    ∙ append_assoc ((((((old ++ a) ++ b) ++ c) ++ d) ++ e) ++ f) g (h ++ k)
-    ∙ append_assoc (((((old ++ a) ++ b) ++ c) ++ d) ++ e) f (g ++ (h ++ k))
-    ∙ append_assoc ((((old ++ a) ++ b) ++ c) ++ d) e (f ++ (g ++ (h ++ k)))
-    ∙ append_assoc (((old ++ a) ++ b) ++ c) d (e ++ (f ++ (g ++ (h ++ k))))
-    ∙ append_assoc ((old ++ a) ++ b) c (d ++ (e ++ (f ++ (g ++ (h ++ k)))))
-    ∙ append_assoc (old ++ a) b (c ++ (d ++ (e ++ (f ++ (g ++ (h ++ k))))))
-    ∙ append_assoc old a (b ++ (c ++ (d ++ (e ++ (f ++ (g ++ (h ++ k)))))))
+-- what is added kind by kind
+abbrev pub added : List Fact → List (List Fact) → List Fact
+added old [] = old
+added old (notes ∷ lists) = added (old ++ notes) lists
 
--- of the four kinds on what the server sends
-pub four : (old a b c d : List Fact)
-    → (((old ++ a) ++ b) ++ c) ++ d ≡ old ++ (a ++ (b ++ (c ++ (d ++ []))))
-four old a b c d =
-    append_assoc ((old ++ a) ++ b) c d
-    ∙ append_assoc (old ++ a) b (c ++ d)
-    ∙ append_assoc old a (b ++ (c ++ d))
-    ∙ ap (λ w. old ++ (a ++ (b ++ (c ++ w)))) (sym (append-nil d))
+abbrev pub joined : List (List Fact) → List Fact
+joined [] = []
+joined (notes ∷ lists) = notes ++ joined lists
+
+pub all_added : (old : List Fact) (lists : List (List Fact)) → added old lists ≡ old ++ joined lists
+all_added old [] = sym (append-nil old)
+all_added old (notes ∷ lists) =
+    all_added (old ++ notes) lists ∙ append_assoc old notes (joined lists)

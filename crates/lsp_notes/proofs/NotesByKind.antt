@@ -255,10 +255,7 @@ late_by_due terms before made p (changes enc kind uri number cs) =
     holds_map BeginsNote IsDue (document_note (on_document uri p))
     (words_since terms made uri enc setters answers)
     (words_due terms made uri enc setters answers) (λ words due. due)
-late_by_due terms before made p (opens uri number text) = tt
-late_by_due terms before made p (closes uri) = tt
-late_by_due terms before made p (saves uri text) = tt
-late_by_due terms before made p (shows uri number text) = tt
+late_by_due terms before made p _ = tt
 
 late_at_due : (terms : Terms) (before : List Event) (event : Event)
     → Holds IsDue (late_at terms before event)
@@ -322,8 +319,7 @@ uncompared_notes (yes s) unshown =
     either_notes (s.snapshots == s.unmatched)
     (line (codes "note" ∷ codes "nothing-compared" ∷ []) ∷ []) (map unshown_line unshown)
     nothing_compared (notes_map unshown_line unshown_note unshown)
-uncompared_notes (no rule by count event) unshown = tt
-uncompared_notes (bad_log at code) unshown = tt
+uncompared_notes _ unshown = tt
 
 -- **those that are found at an event**
 pub notes_found : (terms : Terms) (before : List Heard) (h : Heard)

@@ -195,8 +195,7 @@ module _ (terms : Terms) (before : List Heard) (h : Heard) (old : Spellings)
   names_by p (message m) none =
       ap (λ (o : Option Call). option_and_then (spelling_note terms events p)
       (unopened_in terms own o m)) none
-  names_by p (fault side rule) none = refl
-  names_by p (snapshot uri number text) none = refl
+  names_by p _ none = refl
 
   names_as : (p : EventPlace) → p ≡ place_of events h.note.event
       → option_and_then (spelling_by terms events (place_of events h.note.event))

@@ -84,20 +84,16 @@ module _ (terms : Terms) (events : List Event) (e : Event)
 asks_one : (p : EventPlace) (m : Message) → is_request m ≡ true
     → request_of p Editor m ≡ Some (request_at p (option_and_then (document_in Editor) (params_of m)))
 asks_one p (request own method params) is = refl
-asks_one p (notification method params) is = absurd (cc is)
-asks_one p (response own reply) is = absurd (cc is)
+asks_one p _ is = absurd (cc is)
 
 -- a message that is none asks nothing
 asks_none : (p : EventPlace) (m : Message) → is_request m ≡ false → request_of p Editor m ≡ None
 asks_none p (request own method params) is = absurd (cc is)
-asks_none p (notification method params) is = refl
-asks_none p (response own reply) is = refl
+asks_none p _ is = refl
 
 is_request-outline : (m : Message) → is_request m ≡ is_request (outline m)
-is_request-outline (request own method params) = refl
-is_request-outline (notification method params) = refl
 is_request-outline (response own (result value)) = refl
-is_request-outline (response own (error code)) = refl
+is_request-outline _ = refl
 
 -- whether a message is a request is known without its params and its result
 requests_alike : (m said : Message) → outline m ≡ outline said → is_request m ≡ is_request said
@@ -117,12 +113,9 @@ asked_so p m said named same is are =
     (sym (ap (option_map (λ (v : Versioned). v.uri)) are ∙ editor_names m))
 
 refused_id-outline : (m : Message) → refused_id m ≡ refused_id (outline m)
-refused_id-outline (request own method params) = refl
-refused_id-outline (notification method params) = refl
 refused_id-outline (response None (result value)) = refl
-refused_id-outline (response None (error code)) = refl
 refused_id-outline (response (Some id) (result value)) = refl
-refused_id-outline (response (Some id) (error code)) = refl
+refused_id-outline _ = refl
 
 -- the request first, then the document that it names
 pub refused_in_turn : (terms : Terms) (before : List Event) (id : Option Ident)
@@ -224,8 +217,6 @@ quiet_call terms events (snapshot uri version text) raw call kept reads says = r
   asks_none = refl;
   refuses_it = refl;
 }
-quiet_call terms events (message m) (broken side code) call kept reads says = absurd (cc reads)
-quiet_call terms events (message m) (show uri version text) call kept reads says = absurd (cc reads)
 quiet_call terms events (message m) (content side bytes) call kept reads says =
     let place = place_of events (message m) in
     let sents = sent_in (kept_of terms events) in
@@ -241,6 +232,7 @@ quiet_call terms events (message m) (content side bytes) call kept reads says =
           ∙ ap (refusal_note terms events place)
           (notified_refuses m.side heard.method heard.params);
     }
+quiet_call terms events (message m) _ call kept reads says = absurd (cc reads)
 
 -- **what is held stands for one more that says something of a document**
 pub refusals_called : (terms : Terms) (before : List Heard) (h : Heard) (r : Refusals) (call : Call)

@@ -323,8 +323,6 @@ quiet_call terms events (snapshot uri version text) raw call kept reads says = r
   asks_none = refl;
   has_none = refl;
 }
-quiet_call terms events (message m) (broken side code) call kept reads says = absurd (cc reads)
-quiet_call terms events (message m) (show uri version text) call kept reads says = absurd (cc reads)
 quiet_call terms events (message m) (content side bytes) call kept reads says =
     let place = place_of events (message m) in
     let sents = sent_in (kept_of terms events) in
@@ -341,6 +339,7 @@ quiet_call terms events (message m) (content side bytes) call kept reads says =
           ∙ notified_has terms events uris place m.side heard.method heard.params
           heard.no_diagnostics;
     }
+quiet_call terms events (message m) _ call kept reads says = absurd (cc reads)
 
 -- no answer came late, so no change makes its edits
 no_words : (terms : Terms) (made : List Call) (uri : List ℕ) (enc : Encoding)
@@ -360,10 +359,7 @@ no_late terms before made p (changes enc kind uri number cs) none =
     (words_since terms made uri enc (recent (steps terms uri before)) answers)) none
     ∙ ap (option_map (document_note (on_document uri p)))
     (no_words terms made uri enc (recent (steps terms uri before)) _ refl)
-no_late terms before made p (opens uri number text) none = refl
-no_late terms before made p (closes uri) none = refl
-no_late terms before made p (saves uri text) none = refl
-no_late terms before made p (shows uri number text) none = refl
+no_late terms before made p _ none = refl
 
 -- **what is held stands for one more that says something of a document**, where this is late by it
 pub edits_called : (terms : Terms) (before : List Heard) (h : Heard) (old new : ServerEdits)
@@ -515,15 +511,6 @@ notes_taken terms before event edited i one start old new lt is done more =
     (notes_by_more terms before event (map edited_view (take i edited)) (edited_view one) start
     old new done more)
 
--- ---- the lines of the notes
-
-pub four_parts : {A : Type 0} (old a b c d : List A)
-    → (((old ++ a) ++ b) ++ c) ++ d ≡ old ++ (((a ++ b) ++ c) ++ d)
-four_parts old a b c d =
-    ap (λ l. (l ++ c) ++ d) (append_assoc old a b)
-    ∙ ap (λ l. l ++ d) (append_assoc old (a ++ b) c)
-    ∙ append_assoc old ((a ++ b) ++ c) d
-
 -- ---- a document that has a note
 
 -- no other one is written
@@ -540,9 +527,6 @@ pub late_unchanged : (terms : Terms) (before : List Event) (made : List Call) (p
     (call : calling.Call) → ((enc : Encoding) (kind : SyncKind) (uri : Bor (List ℕ)) (number : ℤ)
     (cs : Bor (List Change)) → call ≡ saying.Changes enc kind uri number cs → ⊥)
     → late_by terms before made p (call_view call) ≡ None
-late_unchanged terms before made p (saying.Opens uri number text) not = refl
 late_unchanged terms before made p (saying.Changes enc kind uri number cs) not =
     absurd (not enc kind uri number cs refl)
-late_unchanged terms before made p (saying.Closes uri) not = refl
-late_unchanged terms before made p (saying.Saves uri text) not = refl
-late_unchanged terms before made p (saying.Shows uri number text) not = refl
+late_unchanged terms before made p _ not = refl

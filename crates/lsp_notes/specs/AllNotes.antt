@@ -19,7 +19,7 @@ use Rattle.lsp_verdict.specs.Offences.{said_at}
 use Rattle.lsp_verdict.specs.Verdict.{Verdict}
 use Rattle.lsp_trail.specs.Asking.{numbered, same_phase}
 use Rattle.lsp_notes.specs.Behind.{AreBehind, is_on_behind}
-use Rattle.lsp_notes.specs.DocumentNotes.{DocumentNote, document_line}
+use Rattle.lsp_notes.specs.DocumentNotes.{document_line}
 use Rattle.lsp_notes.specs.MessageNotes.{AreNoted}
 use Rattle.lsp_notes.specs.Misfits.{AreMisfits, Found, event_found, past_ends, range_lengths}
 use Rattle.lsp_notes.specs.Notes.{Noticed, count_line, exit_notes, misuse_line, name_notes}
@@ -29,7 +29,6 @@ use Rattle.lsp_trail.specs.Renames.{renamed}
 use Rattle.lsp_trail.specs.SessionNotes.{abrupt_exit, misuses}
 use Rattle.lsp_notes.specs.declared.along.NoteCounts.{NoteCounts}
 use Rattle.lsp_notes.specs.declared.along.NotesAlong.{NotesAlong}
-use Rattle.lsp_notes.specs.declared.server_edits.ServerCounts.{ServerCounts}
 
 -- ---- what changes find
 
@@ -63,8 +62,7 @@ has_exited terms before = same_phase (phase (sent_in (kept_before terms before))
 -- the event asks for the shutdown
 abbrev pub asks_shutdown : Event → Bool
 asks_shutdown (message m) = is_shutdown m.act
-asks_shutdown (fault side rule) = false
-asks_shutdown (snapshot uri number text) = false
+asks_shutdown _ = false
 
 -- the rule that is broken by a `shutdown` before the exit
 abbrev pub refused_shutdown : Terms → List Heard → Heard → Option ℕ
@@ -108,13 +106,6 @@ noticed_along terms heard =
 
 -- ---- the notes of an event
 
--- those on what the server sends
-abbrev pub server_kinds : List DocumentNote → List DocumentNote → List DocumentNote
-    → List DocumentNote → List (List Fact)
-server_kinds late outside overlapping unsent =
-    map document_line late ∷ map document_line outside ∷ map document_line overlapping
-    ∷ map document_line unsent ∷ []
-
 -- the notes that belong to events, of each kind all
 abbrev pub kinds : Noticed → List (List Fact)
 kinds n =
@@ -126,16 +117,19 @@ kinds n =
     ∷ map document_line (range_lengths n.found)
     ∷ map document_line n.refused
     ∷ map document_line n.spelled
-    ∷ server_kinds n.late n.outside n.overlapping n.unsent
+    ∷ map document_line n.late
+    ∷ map document_line n.outside
+    ∷ map document_line n.overlapping
+    ∷ map document_line n.unsent
+    ∷ []
 
 abbrev pub counts : List (List Fact) → List ℕ
 counts lists = map (λ (notes : List Fact). length notes) lists
 
 -- of each kind the notes beyond so many
 abbrev pub beyond : List ℕ → List (List Fact) → List Fact
-beyond [] lists = []
-beyond (n ∷ ns) [] = []
 beyond (n ∷ ns) (notes ∷ lists) = drop n notes ++ beyond ns lists
+beyond _ _ = []
 
 -- **the notes that are found at an event**: of each kind those beyond as many as there were
 abbrev pub notes_at : Terms → List Heard → Heard → List Fact
@@ -173,13 +167,10 @@ abbrev pub one : Bool → ℕ
 one true = 1
 one false = 0
 
-abbrev pub server_view : ServerCounts → List ℕ
-server_view c = c.late_edits ∷ c.outside ∷ c.overlaps ∷ c.unsent ∷ []
-
 abbrev pub told_view : NoteCounts → List ℕ
 told_view t =
     t.misuses ∷ one t.exit ∷ one t.name ∷ one t.renamed ∷ t.past_ends ∷ t.range_lengths
-    ∷ t.refused ∷ t.spelled ∷ server_view t.server
+    ∷ t.refused ∷ t.spelled ∷ t.late_edits ∷ t.outside ∷ t.overlaps ∷ t.unsent ∷ []
 
 -- **it is what these events leave of it**, where the notes on those were told
 pub record AreAlong (terms : Terms) (n : NotesAlong) (told heard : List Heard) : Type 0 where

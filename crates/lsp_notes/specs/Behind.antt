@@ -28,9 +28,7 @@ parts rule other call = if rule == rules.DOCUMENT_ALREADY_OPEN then other else s
 -- the document that a message of the editor names
 abbrev pub editor_names : Raw → Option (List ℕ)
 editor_names (content Editor bytes) = named_in Editor bytes
-editor_names (content Server bytes) = None
-editor_names (broken side by) = None
-editor_names (show number uri text) = None
+editor_names _ = None
 
 -- the one that it names though its params do not have their shape: it may have been to change that
 abbrev pub malformed : Raw → ℕ → Option (List ℕ)

@@ -37,8 +37,7 @@ request_with p method params =
 
 abbrev pub request_by : EventPlace → Message → Option Request
 request_by p (request id method params) = request_with p method params
-request_by p (notification method params) = None
-request_by p (response id reply) = None
+request_by p _ = None
 
 abbrev pub request_of : EventPlace → Side → Message → Option Request
 request_of p Editor m = request_by p m

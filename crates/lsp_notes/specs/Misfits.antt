@@ -1,6 +1,6 @@
 -- What of the changes of documents does not fit the text that they are made in, though it breaks no
 -- rule.
-use Rattle.std.specs.Prelude.{◌≡◌, ℕ, pos, List, [], ◌∷◌, ◌++◌, map, filter, ◌==◌, Bool}
+use Rattle.std.specs.Prelude.{◌≡◌, ℕ, pos, List, [], ◌∷◌, ◌++◌, filter, ◌==◌, Bool}
 use Rattle.std.specs.Prelude.{if◌then◌else◌, Option, Some, None, option_map, option_and_then}
 use Rattle.std.specs.Prelude.{codes, decimal}
 use Rattle.std.specs.Fmt.{signed_decimal}
@@ -23,9 +23,9 @@ use Rattle.lsp_verdict.specs.Offences.{kept_of}
 use Rattle.lsp_verdict.specs.Report.{encoding_name}
 use Rattle.lsp_replay.specs.Lines.{place_of}
 use Rattle.lsp_replay.specs.declared.heard.EventPlace.{EventPlace}
-use Rattle.lsp_facts.specs.Fact.{Fact, position_words, spaced}
+use Rattle.lsp_facts.specs.Fact.{position_words, spaced}
 use Rattle.lsp_trail.specs.History.{OnDocument, each_kept, kept_as, on_document}
-use Rattle.lsp_notes.specs.DocumentNotes.{DocumentNote, document_line, document_note}
+use Rattle.lsp_notes.specs.DocumentNotes.{DocumentNote, document_note}
 use Rattle.lsp_notes.specs.DocumentNotes.{first_notes, notes_view, with_note}
 use Rattle.lsp_notes.specs.declared.misfits.Misfits as code
 
@@ -122,12 +122,6 @@ range_length_in f =
 -- **of each document the first `rangeLength` that is not the length of its range**
 abbrev pub range_lengths : List Found → List DocumentNote
 range_lengths found = first_notes (filter_map range_length_in found)
-
--- ---- their notes
-
-abbrev pub misfit_notes : List Found → List Fact
-misfit_notes found =
-    map document_line (past_ends found) ++ map document_line (range_lengths found)
 
 -- ---- as they are held
 

@@ -9,11 +9,11 @@ use Rattle.lsp_trail.specs.Asking.{Numbered, numbered, sents}
 use Rattle.lsp_trail.specs.SessionNotes.{Misused, misuses, abrupt_exit, older_encoding}
 use Rattle.lsp_trail.specs.History.{OnDocument}
 use Rattle.lsp_notes.specs.DocumentNotes.{DocumentNote, document_line}
-use Rattle.lsp_notes.specs.Misfits.{Found, misfit_notes, found_kept, found_refuted}
+use Rattle.lsp_notes.specs.Misfits.{Found, found_kept, found_refuted, past_ends, range_lengths}
 use Rattle.lsp_notes.specs.Refusals.{refusals}
 use Rattle.lsp_trail.specs.Renames.{renamed}
 use Rattle.lsp_trail.specs.Openings.{unshown}
-use Rattle.lsp_notes.specs.ServerEdits.{lates, outsides, overlaps, server_lines, unsents}
+use Rattle.lsp_notes.specs.ServerEdits.{lates, outsides, overlaps, unsents}
 use Rattle.lsp_notes.specs.Spellings.{spellings}
 use Rattle.lsp_verdict.specs.Event.{Event}
 use Rattle.lsp_trail.specs.declared.misuses.Misuse.{Misuse}
@@ -135,10 +135,14 @@ notes_by v n =
     ++ name_notes (name_of n.said)
     ++ old_name_notes (renamed n.said)
     ++ uncompared v n.unshown
-    ++ misfit_notes n.found
+    ++ map document_line (past_ends n.found)
+    ++ map document_line (range_lengths n.found)
     ++ map document_line n.refused
     ++ map document_line n.spelled
-    ++ server_lines n.late n.outside n.overlapping n.unsent
+    ++ map document_line n.late
+    ++ map document_line n.outside
+    ++ map document_line n.overlapping
+    ++ map document_line n.unsent
 
 -- how many there are, if there are any
 abbrev pub count_line : ℕ → List ℕ

@@ -30,8 +30,7 @@ use Rattle.lsp_notes.specs.declared.refusals.Refusals.{Refusals}
 abbrev pub request_by : EventPlace → Message → Option Request
 request_by p (request id method params) =
     Some (request_at p (option_and_then (document_in Editor) params))
-request_by p (notification method params) = None
-request_by p (response id reply) = None
+request_by p _ = None
 
 abbrev pub request_of : EventPlace → Side → Message → Option Request
 request_of p Editor m = request_by p m
@@ -55,8 +54,7 @@ last_requests terms events = last_ones most_requests (requests terms events)
 -- whether a message is a request
 abbrev pub is_request : Message → Bool
 is_request (request id method params) = true
-is_request (notification method params) = false
-is_request (response id reply) = false
+is_request _ = false
 
 -- ---- answers
 
@@ -72,9 +70,7 @@ refused_by id (result value) = None
 -- that of the request that a message refuses so
 abbrev pub refused_id : Message → Option Ident
 refused_id (response (Some id) reply) = refused_by id reply
-refused_id (response None reply) = None
-refused_id (request id method params) = None
-refused_id (notification method params) = None
+refused_id _ = None
 
 abbrev pub refuses : Side → Message → Option Ident
 refuses Server m = refused_id m

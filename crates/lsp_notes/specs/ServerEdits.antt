@@ -8,7 +8,7 @@ use Rattle.serde_json.specs.Data.{Data}
 use Rattle.lsp_docs.specs.Calls.{Call, changes}
 use Rattle.lsp_docs.specs.Documents.{Held, Terms, documents}
 use Rattle.lsp_docs.specs.State.{Stands}
-use Rattle.lsp_facts.specs.Fact.{Fact, position_words}
+use Rattle.lsp_facts.specs.Fact.{position_words}
 use Rattle.lsp_outline.specs.Versions.{Versioned}
 use Rattle.lsp_replay.specs.Lines.{place_of}
 use Rattle.lsp_replay.specs.declared.heard.EventPlace.{EventPlace}
@@ -26,7 +26,7 @@ use Rattle.lsp_verdict.specs.Event.{calls, Event, sent_of}
 use Rattle.lsp_verdict.specs.LookBack.{each_of}
 use Rattle.lsp_verdict.specs.Offences.{kept_of, rule_at, said_at}
 use Rattle.lsp_trail.specs.Asking.{asked, numbered}
-use Rattle.lsp_notes.specs.DocumentNotes.{DocumentNote, document_line, document_note}
+use Rattle.lsp_notes.specs.DocumentNotes.{DocumentNote, document_note}
 use Rattle.lsp_notes.specs.DocumentNotes.{first_notes, notes_view, with_note}
 use Rattle.lsp_notes.specs.EditRequests.{last_requests}
 use Rattle.lsp_notes.specs.Requests.{Request, request_at_place, requests_view}
@@ -81,15 +81,12 @@ in_answer uris (Some r) reply = in_reply uris r reply
 
 -- the same of a message that may be no answer
 abbrev pub result_in : Message → Option Data
-result_in (request id method params) = None
-result_in (notification method params) = None
 result_in (response id (result d)) = Some d
-result_in (response id (error code)) = None
+result_in _ = None
 
 abbrev pub in_whole : List (List ℕ) → Option Request → Message → List Edited
-in_whole uris r (request id method params) = []
-in_whole uris r (notification method params) = []
 in_whole uris r (response id reply) = in_answer uris r reply
+in_whole uris r _ = []
 
 -- a request of the server that has edits made
 abbrev pub is_apply_edit : List ℕ → Bool
@@ -98,8 +95,7 @@ is_apply_edit method = bytes_eq method (codes "workspace/applyEdit")
 -- the edit among the params of a request
 abbrev pub edit_in : Message → Option Data
 edit_in (request id method params) = option_and_then (member (codes "edit")) params
-edit_in (notification method params) = None
-edit_in (response id reply) = None
+edit_in _ = None
 
 abbrev pub in_edit : List (List ℕ) → EventPlace → Option Data → List Edited
 in_edit uris p None = []
@@ -285,13 +281,6 @@ late_at terms before event =
 -- **the first change that makes edits late**
 abbrev pub lates : Terms → List Event → List DocumentNote
 lates terms events = first_notes (each_of (late_at terms) events)
-
--- the lines of these notes
-abbrev pub server_lines : List DocumentNote → List DocumentNote → List DocumentNote
-    → List DocumentNote → List Fact
-server_lines late outside overlapping unsent =
-    map document_line late ++ map document_line outside
-    ++ map document_line overlapping ++ map document_line unsent
 
 -- ---- as they are held
 

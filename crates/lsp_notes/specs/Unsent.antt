@@ -13,9 +13,8 @@ use Rattle.lsp_trail.specs.declared.openings.Closing.TheVariants as closing
 
 -- no message closed the document
 abbrev pub is_never : Closing → Bool
-is_never (closing.Last p) = false
 is_never closing.Never = true
-is_never closing.Forgotten = false
+is_never _ = false
 
 -- it is the `didOpen`, or set a version below this one
 abbrev pub covers : ℤ → VersionEvent → Bool

@@ -31,7 +31,6 @@ use crate::notes::{
     name_in, notes_of, push_count, push_exit, push_misuses, push_name, push_renamed,
     push_uncompared,
 };
-use crate::server_edits::ServerCounts;
 use lsp_facts::{Facts, push_facts};
 use lsp_lined::Lined;
 use lsp_replay::{EventPlace, Events, Fate, Seen};
@@ -52,7 +51,10 @@ pub(crate) struct NoteCounts {
     range_lengths: usize,
     refused: usize,
     spelled: usize,
-    server: ServerCounts,
+    late_edits: usize,
+    outside: usize,
+    overlaps: usize,
+    unsent: usize,
 }
 
 /// The notes on the events of a session, and how many of them were told.
@@ -91,7 +93,10 @@ impl NotesAlong {
                 range_lengths: 0,
                 refused: 0,
                 spelled: 0,
-                server: ServerCounts::none(),
+                late_edits: 0,
+                outside: 0,
+                overlaps: 0,
+                unsent: 0,
             },
         }
     }
@@ -185,7 +190,11 @@ impl NotesAlong {
         let messages = &self.messages;
         push_beyond(notes, &messages.refusals.refused, told.refused)?;
         push_beyond(notes, &messages.spellings.named, told.spelled)?;
-        messages.server_edits.push_beyond(notes, told.server)
+        let edits = &messages.server_edits;
+        push_beyond(notes, &edits.late_edits, told.late_edits)?;
+        push_beyond(notes, &edits.outside, told.outside)?;
+        push_beyond(notes, &edits.overlaps, told.overlaps)?;
+        push_beyond(notes, &edits.unsent, told.unsent)
     }
 
     /// How many notes of each kind there are.
@@ -195,6 +204,7 @@ impl NotesAlong {
             → told_view result ≡ counts (kinds (noticed_along (terms_in past.entry) heard)) }
     {
         let said = &past.trail.said;
+        let edits = &self.messages.server_edits;
         NoteCounts {
             misuses: said.notes.misuses.len(),
             exit: self.exit(past).is_some(),
@@ -204,7 +214,10 @@ impl NotesAlong {
             range_lengths: self.misfits.range_lengths.len(),
             refused: self.messages.refusals.refused.len(),
             spelled: self.messages.spellings.named.len(),
-            server: self.messages.server_edits.counts(),
+            late_edits: edits.late_edits.len(),
+            outside: edits.outside.len(),
+            overlaps: edits.overlaps.len(),
+            unsent: edits.unsent.len(),
         }
     }
 

@@ -24,9 +24,6 @@ struct Splice<'a> {
 }
 
 /// Whether edits make a text of another one, in which all their ranges are.
-///
-/// # Errors
-/// `Memory` where memory was refused.
 pub(crate) fn makes(
     alloc: Global,
     encoding: Encoding,

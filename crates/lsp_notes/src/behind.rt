@@ -60,9 +60,6 @@ impl Behind {
     }
 
     /// Notes the next event.
-    ///
-    /// # Errors
-    /// `Memory` where memory was refused; nothing is then known of what is held.
     pub(crate) fn note(&mut self, held: &Events<Lined>, seen: &Seen<'_>) -> Result<()>
         ensures { OnOk result ((terms : Terms) (before : List Heard) (h : Heard)
             → AreBehind terms self.old before

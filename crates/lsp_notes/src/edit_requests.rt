@@ -23,9 +23,6 @@ const MOST_REQUESTS: usize = 64;
 /// Adds a message of the editor, the event of this place, that names this document, if it is such a
 /// request. What is held of it is the document whose edits answer it; none where a workspace edit
 /// does.
-///
-/// # Errors
-/// `Memory` where memory was refused; nothing is then known of what is held.
 pub(crate) fn note_edit_request(
     asked: &mut VecDeque<Request>,
     place: EventPlace,

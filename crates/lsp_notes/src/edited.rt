@@ -61,9 +61,6 @@ pub(crate) struct Now<'a> {
 
 /// What a message of the server has for documents, read from this content. These are the last
 /// requests that are answered by edits, and this is what the message names.
-///
-/// # Errors
-/// `Memory` where memory was refused.
 pub(crate) fn edited_by(
     now: Now<'_>,
     asked: &VecDeque<Request>,

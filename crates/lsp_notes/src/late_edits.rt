@@ -48,9 +48,6 @@ pub(crate) struct LateAnswer {
 
 /// Adds an answer with these edits, the event of this place, if the text changed since the request:
 /// the document had these texts. There must be edits, and they must be small enough.
-///
-/// # Errors
-/// `Memory` where memory was refused; nothing is then known of what is held.
 pub(crate) fn note_late(
     late: &mut VecDeque<LateAnswer>,
     uri: &str,
@@ -106,9 +103,6 @@ fn are_small(edits: &[Change]) -> bool
 /// The words of a note on a change of this document, if it is what the edits of the last answer
 /// since the version before make of that version, and not of the one at the request. These messages
 /// set the versions before, and the documents are those after the change.
-///
-/// # Errors
-/// `Memory` where memory was refused.
 pub(crate) fn words_since(
     docs: &Docs<Lined>,
     uri: &str,
@@ -132,10 +126,7 @@ pub(crate) fn words_since(
 fn last_of(setters: &[VersionEvent]) -> Option<VersionEvent>
     ensures { result ≡ last_setter setters.now }
 {
-    match setters.last() {
-        Some(setter) => Some(*setter),
-        None => None,
-    }
+    setters.last().copied()
 }
 
 /// The last of these answers that is on this document, and came after this message.

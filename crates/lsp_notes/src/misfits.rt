@@ -2,7 +2,6 @@
 //! no rule.
 ghost use Rattle.std.specs.Prelude.{◌≡◌, ◌++◌, ◌∷◌, [], List, Some, IfOk, OnOk, option_map};
 ghost use Rattle.std.specs.Prelude.{Ok, if◌then◌else◌, pos, ℕ, string_bytes};
-ghost use Rattle.std.specs.List.{flat_map};
 ghost use Rattle.std.specs.Ordering.{int_eq};
 ghost use Rattle.lsp_docs.specs.Calls.{Call as SpecCall};
 ghost use Rattle.lsp_docs.specs.Documents.{Terms};
@@ -13,25 +12,22 @@ ghost use Rattle.lsp_notes.specs.DocumentNotes.{document_note, notes_view, with_
 ghost use Rattle.lsp_trail.specs.History.{on_document};
 ghost use Rattle.lsp_notes.specs.Misfits as spec;
 ghost use Rattle.lsp_notes.specs.Misfits.{AreMisfits, MisfitsBy, finds, found_refuted};
-ghost use Rattle.lsp_notes.specs.Misfits.{kept_found, misfit_notes};
-ghost use Rattle.lsp_facts.specs.Fact.{spaced};
+ghost use Rattle.lsp_notes.specs.Misfits.{kept_found};
 ghost use Rattle.lsp_replay.specs.Telling.{IsSeen, rule_of};
 ghost use Rattle.lsp_text.specs.Changes.{edits_of};
 ghost use Rattle.lsp_text.specs.Edits.{applied};
 ghost use Rattle.lsp_text.specs.Findings.{findings};
 ghost use Rattle.lsp_types.specs.declared.rules.TheConstants as rules;
 ghost use Rattle.lsp_verdict.specs.Heard.{Heard, heard_events};
-ghost use Rattle.lsp_verdict.specs.Report.{encoding_name};
 
-use crate::document_notes::{DocumentNote, is_noted, push_lines, push_note};
+use crate::document_notes::{DocumentNote, is_noted, push_note};
 use lsp_docs::{Call, Docs, Took};
-use lsp_facts::Facts;
+use lsp_facts::push_encodings;
 use lsp_lined::Lined;
 use lsp_replay::{EventPlace, Events, Fate, Seen};
 use lsp_rpc::Result;
 use lsp_text::{Extent, Findings, OtherLength, PastEnd, TextFault, TextStore, change_all};
 use lsp_types::{Change, Encoding, Memory, Position, rules};
-use lsp_verdict::encoding_name;
 use std::alloc::Global;
 use std::fmt::Write;
 
@@ -106,18 +102,6 @@ impl Misfits {
         let found = found_by(&held.docs, call)?;
         let place = EventPlace::last(&held.counts, seen.raw.who());
         self.note_call(place, call, found)
-    }
-
-    /// Adds the lines of the notes.
-    ///
-    /// # Errors
-    /// `Memory` where memory was refused.
-    pub(crate) fn push(&self, notes: &mut Facts) -> Result<()>
-        ensures { OnOk result ((found : List spec.Found) → AreMisfits self.now found
-            → notes.new ≡ notes.old ++ misfit_notes found) }
-    {
-        push_lines(notes, self.past_ends.as_slice())?;
-        push_lines(notes, self.range_lengths.as_slice())
     }
 
     /// Notes what a call found, the event of this place.
@@ -338,7 +322,7 @@ fn push_fitting(words: &mut String, length: OtherLength) -> Result<()>
         return Ok(());
     }
     words.push_str(" fits")?;
-    push_names(words, names.as_slice())
+    push_encodings(words, names.as_slice())
 }
 
 /// Adds an encoding, if what was sent is the length in it.
@@ -357,24 +341,4 @@ fn is_length(sent: i32, units: u64) -> bool
     ensures { result ≡ int_eq sent (pos units) }
 {
     sent >= 0 && u64::from(sent.cast_unsigned()) == units
-}
-
-/// Adds the names of encodings.
-fn push_names(words: &mut String, encodings: &[Encoding]) -> Result<()>
-    ensures { OnOk result (string_bytes words.new ≡ string_bytes words.old
-        ++ flat_map (λ e. spaced (encoding_name (Some e))) encodings.now) }
-{
-    for encoding in encodings {
-        push_name(words, *encoding)?;
-    }
-    Ok(())
-}
-
-fn push_name(words: &mut String, encoding: Encoding) -> Result<()>
-    ensures { OnOk result (string_bytes words.new
-        ≡ string_bytes words.old ++ spaced (encoding_name (Some encoding))) }
-{
-    let name = encoding_name(Some(encoding));
-    write!(words, " {name}")?;
-    Ok(())
 }

@@ -14,6 +14,7 @@ ghost use Rattle.lsp_notes.specs.Notes.{note_lines, notes_by, noticed, old_name_
 ghost use Rattle.lsp_notes.specs.Notes.{unshown_line, with_exit, with_server};
 ghost use Rattle.lsp_trail.specs.Trails.{StandsAfter, terms_in};
 
+use crate::document_notes::push_lines;
 use crate::messages::MessageNotes;
 use crate::misfits::Misfits;
 use lsp_facts::{Facts, push_facts};
@@ -72,10 +73,15 @@ pub(crate) fn notes_of(
     push_name(&mut notes, name_in(past))?;
     push_renamed(&mut notes, said.renames.renamed())?;
     push_uncompared(&mut notes, verdict, unshown.as_slice())?;
-    misfits.push(&mut notes)?;
-    messages.refusals.push(&mut notes)?;
-    messages.spellings.push(&mut notes)?;
-    messages.server_edits.push(&mut notes)?;
+    push_lines(&mut notes, misfits.past_ends.as_slice())?;
+    push_lines(&mut notes, misfits.range_lengths.as_slice())?;
+    push_lines(&mut notes, messages.refusals.refused.as_slice())?;
+    push_lines(&mut notes, messages.spellings.named.as_slice())?;
+    let edits = &messages.server_edits;
+    push_lines(&mut notes, edits.late_edits.as_slice())?;
+    push_lines(&mut notes, edits.outside.as_slice())?;
+    push_lines(&mut notes, edits.overlaps.as_slice())?;
+    push_lines(&mut notes, edits.unsent.as_slice())?;
     Ok(notes)
 }
 

@@ -4,7 +4,7 @@ ghost use Rattle.std.specs.Prelude.{Some, map, option_and_then, option_map, stri
 ghost use Rattle.std.specs.List.{cons_option};
 ghost use Rattle.std.specs.Ordering.{int_eq};
 ghost use Rattle.lsp_docs.specs.Documents.{Terms};
-ghost use Rattle.lsp_notes.specs.DocumentNotes.{document_line, notes_view, with_note};
+ghost use Rattle.lsp_notes.specs.DocumentNotes.{notes_view, with_note};
 ghost use Rattle.lsp_trail.specs.Marking.{AreMarks};
 ghost use Rattle.lsp_trail.specs.Naming.{version_named, version_named_at};
 ghost use Rattle.lsp_notes.specs.Refusals as spec;
@@ -16,16 +16,15 @@ ghost use Rattle.lsp_replay.specs.Telling.{IsSeen, MaySpeak, Stood, kept_before,
 ghost use Rattle.lsp_rpc.specs.Ident.{id_view};
 ghost use Rattle.lsp_rpc.specs.Message.{Message as AMessage};
 ghost use Rattle.lsp_rpc.specs.Outline.{outline};
-ghost use Rattle.lsp_rpc.specs.View.{answer_view, message_view};
+ghost use Rattle.lsp_rpc.specs.View.{message_view};
 ghost use Rattle.lsp_types.specs.declared.side.Side.TheVariants.{Editor};
 ghost use Rattle.lsp_verdict.specs.Event.{Event};
 ghost use Rattle.lsp_verdict.specs.Given.{raw_view};
 ghost use Rattle.lsp_verdict.specs.Heard.{Heard, heard_events};
 ghost use Rattle.lsp_verdict.specs.Offences.{IsNoted, said_at};
 
-use crate::document_notes::{DocumentNote, is_noted, push_lines, push_note};
+use crate::document_notes::{DocumentNote, is_noted, push_note};
 use crate::requests::{Request, push_request, request_at};
-use lsp_facts::Facts;
 use lsp_lined::Lined;
 use lsp_outline::DocumentVersion;
 use lsp_replay::{EventPlace, Events, Seen};
@@ -65,9 +64,6 @@ impl Refusals {
 
     /// Notes a message that is kept and says nothing of a document. The trail is of the events
     /// before it, and this is what the message names.
-    ///
-    /// # Errors
-    /// `Memory` where memory was refused; nothing is then known of what is held.
     pub(crate) fn note_message(
         &mut self,
         held: &Events<Lined>,
@@ -105,17 +101,6 @@ impl Refusals {
                 )
             }
         }
-    }
-
-    /// Adds the lines of the notes.
-    ///
-    /// # Errors
-    /// `Memory` where memory was refused.
-    pub(crate) fn push(&self, notes: &mut Facts) -> Result<()>
-        ensures { OnOk result (notes.new
-            ≡ notes.old ++ map document_line (notes_view self.now.refused.items)) }
-    {
-        push_lines(notes, self.refused.as_slice())
     }
 }
 
@@ -257,20 +242,9 @@ fn refused_id(message: &Message) -> Option<&Id>
     match message {
         Message::Response {
             id: Some(id),
-            answer,
-        } => refused_by(id, answer),
+            answer: Answer::Error { code },
+        } => if_invalid(id, *code),
         _ => None,
-    }
-}
-
-/// The id of the request that is answered so, if that refuses it for its params.
-fn refused_by<'a>(id: &'a Id, answer: &Answer) -> Option<&'a Id>
-    ensures { option_map (λ id. id_view id.now) result
-        ≡ spec.refused_by (id_view id.now) (answer_view answer.now) }
-{
-    match answer {
-        Answer::Error { code } => if_invalid(id, *code),
-        Answer::Result(_) => None,
     }
 }
 
@@ -278,15 +252,5 @@ fn if_invalid(id: &Id, code: i32) -> Option<&Id>
     ensures { option_map (λ id. id_view id.now) result
         ≡ (if int_eq code invalid_params then Some (id_view id.now) else None) }
 {
-    if is_invalid_params(code) {
-        Some(id)
-    } else {
-        None
-    }
-}
-
-fn is_invalid_params(code: i32) -> bool
-    ensures { result ≡ int_eq code invalid_params }
-{
-    code == INVALID_PARAMS
+    (code == INVALID_PARAMS).then_some(id)
 }

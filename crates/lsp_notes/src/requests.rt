@@ -20,9 +20,6 @@ pub(crate) struct Request {
 
 /// Adds the request that is the event of this place after the others, of which so many stay, the
 /// last ones.
-///
-/// # Errors
-/// `Memory` where memory was refused; nothing is then known of what is held.
 pub(crate) fn push_request(
     asked: &mut VecDeque<Request>,
     most: usize,

@@ -7,7 +7,6 @@ ghost use Rattle.lsp_docs.specs.Calls.{Call as SpecCall};
 ghost use Rattle.lsp_docs.specs.Documents.{Terms};
 ghost use Rattle.lsp_docs.specs.State.{Stands};
 ghost use Rattle.lsp_docs.specs.Taken.{call_view};
-ghost use Rattle.lsp_notes.specs.AllNotes.{beyond, counts, server_kinds, server_view};
 ghost use Rattle.lsp_notes.specs.DocumentNotes.{document_note, notes_view, with_note};
 ghost use Rattle.lsp_trail.specs.History.{on_document};
 ghost use Rattle.lsp_notes.specs.LateEdits.{HoldsLate, lates_view};
@@ -32,7 +31,7 @@ ghost use Rattle.lsp_verdict.specs.Given.{raw_view};
 ghost use Rattle.lsp_verdict.specs.Heard.{Heard, heard_events};
 ghost use Rattle.lsp_verdict.specs.Offences.{IsNoted, said_at};
 
-use crate::document_notes::{DocumentNote, is_noted, push_beyond, push_lines, push_note};
+use crate::document_notes::{DocumentNote, is_noted, push_note};
 use crate::edit_requests::note_edit_request;
 use crate::edited::{Edited, Now, edited_by};
 use crate::late_edits::{LateAnswer, note_late, words_since};
@@ -40,7 +39,6 @@ use crate::requests::Request;
 use crate::texts_since::{first_outside, overlap_each, texts_since};
 use crate::unsent::words_if_unsent;
 use lsp_docs::{Call, Docs};
-use lsp_facts::Facts;
 use lsp_lined::Lined;
 use lsp_outline::DocumentVersion;
 use lsp_replay::{EventPlace, Events, Seen};
@@ -51,29 +49,6 @@ use lsp_verdict::{Raw, who_of};
 use std::alloc::Global;
 use std::collections::VecDeque;
 
-/// How many notes of each kind there are.
-#[derive(Clone, Copy)]
-pub(crate) struct ServerCounts {
-    late_edits: usize,
-    outside: usize,
-    overlaps: usize,
-    unsent: usize,
-}
-
-impl ServerCounts {
-    /// There are none.
-    pub(crate) fn none() -> ServerCounts
-        ensures { server_view result ≡ 0 ∷ 0 ∷ 0 ∷ 0 ∷ [] }
-    {
-        ServerCounts {
-            late_edits: 0,
-            outside: 0,
-            overlaps: 0,
-            unsent: 0,
-        }
-    }
-}
-
 /// The last requests of the editor that are answered by edits, and the last answers that came late;
 /// of each document the first change that made edits late, the first edits with a position outside
 /// of its texts, those that overlap in each of them, and the first version that no message had set.
@@ -83,10 +58,10 @@ impl ServerCounts {
 pub(crate) struct ServerEdits {
     asked: VecDeque<Request>,
     late: VecDeque<LateAnswer>,
-    late_edits: Vec<DocumentNote>,
-    outside: Vec<DocumentNote>,
-    overlaps: Vec<DocumentNote>,
-    unsent: Vec<DocumentNote>,
+    pub(crate) late_edits: Vec<DocumentNote>,
+    pub(crate) outside: Vec<DocumentNote>,
+    pub(crate) overlaps: Vec<DocumentNote>,
+    pub(crate) unsent: Vec<DocumentNote>,
 }
 
 impl ServerEdits {
@@ -108,9 +83,6 @@ impl ServerEdits {
     /// events before it. Usually no answer came late.
     ///
     /// It looks again for what the event says: if that were passed on, it would be copied first.
-    ///
-    /// # Errors
-    /// `Memory` where memory was refused; nothing is then known of what is held.
     #[inline(always)]
     pub(crate) fn note_call(
         &mut self,
@@ -171,9 +143,6 @@ impl ServerEdits {
 
     /// Notes a message that is kept and says nothing of a document. The trail is of the events
     /// before it, and this is what the message names.
-    ///
-    /// # Errors
-    /// `Memory` where memory was refused; nothing is then known of what is held.
     pub(crate) fn note_message(
         &mut self,
         held: &Events<Lined>,
@@ -290,52 +259,6 @@ impl ServerEdits {
         let overlap = words_if_overlap(now, texts, edits)?;
         push_if(&mut self.overlaps, uri, overlap, now.place)?;
         note_late(&mut self.late, uri, edited.since, now.place, texts, edits)
-    }
-
-    /// How many notes of each kind there are.
-    pub(crate) fn counts(&self) -> ServerCounts
-        ensures { server_view result ≡ counts (server_kinds (notes_view self.now.late_edits.items)
-            (notes_view self.now.outside.items) (notes_view self.now.overlaps.items)
-            (notes_view self.now.unsent.items)) }
-    {
-        ServerCounts {
-            late_edits: self.late_edits.len(),
-            outside: self.outside.len(),
-            overlaps: self.overlaps.len(),
-            unsent: self.unsent.len(),
-        }
-    }
-
-    /// Adds the lines of the notes beyond so many of each kind.
-    ///
-    /// # Errors
-    /// `Memory` where memory was refused.
-    pub(crate) fn push_beyond(&self, notes: &mut Facts, told: ServerCounts) -> Result<()>
-        ensures { OnOk result (notes.new ≡ notes.old ++ beyond (server_view told)
-            (server_kinds (notes_view self.now.late_edits.items)
-            (notes_view self.now.outside.items) (notes_view self.now.overlaps.items)
-            (notes_view self.now.unsent.items))) }
-    {
-        push_beyond(notes, &self.late_edits, told.late_edits)?;
-        push_beyond(notes, &self.outside, told.outside)?;
-        push_beyond(notes, &self.overlaps, told.overlaps)?;
-        push_beyond(notes, &self.unsent, told.unsent)
-    }
-
-    /// Adds the lines of the notes.
-    ///
-    /// # Errors
-    /// `Memory` where memory was refused.
-    pub(crate) fn push(&self, notes: &mut Facts) -> Result<()>
-        ensures { OnOk result (notes.new
-            ≡ notes.old ++ spec.server_lines (notes_view self.now.late_edits.items)
-            (notes_view self.now.outside.items) (notes_view self.now.overlaps.items)
-            (notes_view self.now.unsent.items)) }
-    {
-        push_lines(notes, self.late_edits.as_slice())?;
-        push_lines(notes, self.outside.as_slice())?;
-        push_lines(notes, self.overlaps.as_slice())?;
-        push_lines(notes, self.unsent.as_slice())
     }
 }
 

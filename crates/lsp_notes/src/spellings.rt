@@ -1,13 +1,13 @@
 //! Which messages name a document that is not open, while one is open whose URI differs from its
 //! URI in the spelling alone.
-ghost use Rattle.std.specs.Prelude.{◌≡◌, ◌++◌, ◌∷◌, [], List, None, Some, IfOk, OnOk, map};
+ghost use Rattle.std.specs.Prelude.{◌≡◌, ◌++◌, ◌∷◌, [], List, None, Some, IfOk, OnOk};
 ghost use Rattle.std.specs.Prelude.{option_map, string_bytes};
 ghost use Rattle.std.specs.List.{find};
 ghost use Rattle.lsp_docs.specs.Calls.{Call as SpecCall};
 ghost use Rattle.lsp_docs.specs.Documents.{Terms};
 ghost use Rattle.lsp_docs.specs.State.{Stands};
 ghost use Rattle.lsp_docs.specs.Taken.{call_view};
-ghost use Rattle.lsp_notes.specs.DocumentNotes.{document_line, notes_view, with_note};
+ghost use Rattle.lsp_notes.specs.DocumentNotes.{notes_view, with_note};
 ghost use Rattle.lsp_trail.specs.Naming.{version_named_at};
 ghost use Rattle.lsp_trail.specs.Openings.{AreOpenings, on_view, ons_view};
 ghost use Rattle.lsp_notes.specs.Spellings as spec;
@@ -20,9 +20,8 @@ ghost use Rattle.lsp_verdict.specs.Heard.{Heard, heard_events};
 ghost use Rattle.lsp_verdict.specs.Given.{raw_view};
 ghost use Rattle.lsp_verdict.specs.Offences.{IsNoted, kept_of, said_at};
 
-use crate::document_notes::{DocumentNote, is_noted, push_lines, push_note};
+use crate::document_notes::{DocumentNote, is_noted, push_note};
 use lsp_docs::{Call, Docs};
-use lsp_facts::Facts;
 use lsp_lined::Lined;
 use lsp_outline::DocumentVersion;
 use lsp_replay::{EventPlace, Events, Seen};
@@ -62,9 +61,6 @@ impl Spellings {
 
     /// Notes the next event, which is kept and says this of a document. The trail is of the events
     /// before it. Usually it changes the document, which is open.
-    ///
-    /// # Errors
-    /// `Memory` where memory was refused; nothing is then known of what is held.
     #[inline(always)]
     pub(crate) fn note_call(
         &mut self,
@@ -89,9 +85,6 @@ impl Spellings {
 
     /// Notes a message that is kept and says nothing of a document. The trail is of the events
     /// before it, and this is what the message names.
-    ///
-    /// # Errors
-    /// `Memory` where memory was refused; nothing is then known of what is held.
     pub(crate) fn note_message(
         &mut self,
         held: &Events<Lined>,
@@ -142,17 +135,6 @@ impl Spellings {
             return Ok(());
         };
         push_note(&mut self.named, uri, words, place)
-    }
-
-    /// Adds the lines of the notes.
-    ///
-    /// # Errors
-    /// `Memory` where memory was refused.
-    pub(crate) fn push(&self, notes: &mut Facts) -> Result<()>
-        ensures { OnOk result (notes.new
-            ≡ notes.old ++ map document_line (notes_view self.now.named.items)) }
-    {
-        push_lines(notes, self.named.as_slice())
     }
 }
 

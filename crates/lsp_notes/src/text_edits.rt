@@ -27,9 +27,6 @@ pub(crate) struct DocumentEdits {
 
 /// What a workspace edit has for the document of this URI: in `documentChanges`, or else in
 /// `changes`.
-///
-/// # Errors
-/// `Memory` where memory was refused.
 pub(crate) fn edits_for(alloc: Global, edit: &Value, uri: &str) -> Result<Option<DocumentEdits>>
     ensures { IfOk result (λ edits. option_map document_edits_view edits
         ≡ spec.edits_for uri.now (view edit.now)) }
@@ -132,9 +129,6 @@ fn edits_of_item(alloc: Global, item: &Value) -> Result<Option<Vec<Change>>>
 // ---- edits of a text
 
 /// The edits that an array lists, if each has the form of one and there are not too many.
-///
-/// # Errors
-/// `Memory` where memory was refused.
 pub(crate) fn text_edits_of(alloc: Global, value: &Value) -> Result<Option<Vec<Change>>>
     ensures { IfOk result (λ edits. option_map (λ v. edits_of v.items) edits
         ≡ spec.text_edits_at (view value.now)) }

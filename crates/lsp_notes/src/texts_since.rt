@@ -49,9 +49,6 @@ fn last_before(place: EventPlace, setters: &[VersionEvent]) -> Option<&VersionEv
 
 /// The texts that the document of this URI had since the event of this place, if all are kept or
 /// held. These messages set its versions.
-///
-/// # Errors
-/// `Memory` where memory was refused.
 pub(crate) fn texts_since(
     docs: &Docs<Lined>,
     uri: &str,
@@ -210,9 +207,6 @@ fn is_start_of(position: Position, line: u64) -> bool
 // ---- edits that overlap
 
 /// Whether in each of these texts two of the edits overlap.
-///
-/// # Errors
-/// `Memory` where memory was refused.
 pub(crate) fn overlap_each(
     alloc: Global,
     encoding: Encoding,

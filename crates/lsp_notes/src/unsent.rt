@@ -13,9 +13,6 @@ use lsp_trail::{Closing, Trail, VersionEvent};
 use std::alloc::Global;
 
 /// The words of a note on this version of the document of a URI, if no message has set it.
-///
-/// # Errors
-/// `Memory` where memory was refused.
 pub(crate) fn words_if_unsent(
     alloc: Global,
     trail: &Trail,

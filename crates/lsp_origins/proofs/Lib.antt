@@ -5,4 +5,3 @@ pub mod Rearranging
 pub mod OtherLineSteps
 pub mod Telling
 pub mod Written
-pub mod TracesWorked

@@ -162,8 +162,7 @@ pub bare_said : (event number : ℕ) (who : Who) (raw : lent.Raw)
     → bare_event event who number ≡ event_line event who number (raw_view raw)
 bare_said event number who (lents.Content side bytes behind) not =
     absurd (not side bytes behind refl)
-bare_said event number who (lents.Broken side rule rest) not = refl
-bare_said event number who (lents.Snapshot version uri text) not = refl
+bare_said event number who _ not = refl
 
 -- the line of a message is that of its content
 pub line_said : (kept : List Event) (side : Side) (bytes : List ℕ) (e : Event) (s : Spoken)

@@ -143,9 +143,8 @@ untold old terms before rule limit call none =
 pub no_own_setter : (limit : Until) (done : List VersionEvent)
     → ((p : EventPlace) (number : ℤ) → limit ≡ until.Message p number → ⊥)
     → done ≡ setters_until limit done
-no_own_setter until.Held done not = sym (append-nil done)
-no_own_setter (until.Version number) done not = sym (append-nil done)
 no_own_setter (until.Message p number) done not = absurd (not p number refl)
+no_own_setter _ done not = sym (append-nil done)
 
 -- ---- the lines, one after another
 

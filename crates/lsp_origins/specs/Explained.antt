@@ -35,8 +35,7 @@ place_in o = record { event = o.event; who = o.who; number = o.number }
 -- the line of the event of a No
 abbrev pub event_of : Verdict → Raw → List ℕ
 event_of (no rule by count event) raw = event_line event by count raw
-event_of (yes s) raw = []
-event_of (bad_log at code) raw = []
+event_of _ raw = []
 
 -- the No, the line of its event, the facts, with the events that brought it, and whose fault it
 -- usually is
@@ -61,16 +60,14 @@ pub record Explains (rests : Rests) (terms : Terms) (b : Breach) (e : Explained)
 -- the place of a No at which no event stands
 abbrev pub end_line : Verdict → List ℕ
 end_line (no rule by count event) = end_event event by
-end_line (yes s) = []
-end_line (bad_log at code) = []
+end_line _ = []
 
 -- 107 says how the frame begins that is not whole, 303 and 407 what waits after the kept messages
 abbrev pub end_facts : Rests → List Numbered → Verdict → List Fact
 end_facts rests said (no rule by count event) =
     if rule == rules.STREAM_ENDS_INSIDE_FRAME
     then header_facts (rest_of rests (side_by by)) else lack_traced said
-end_facts rests said (yes s) = []
-end_facts rests said (bad_log at code) = []
+end_facts rests said _ = []
 
 -- whose fault it is that a side's bytes end inside a frame shows in what there is of it
 abbrev pub end_usually : Rests → Verdict → List ℕ

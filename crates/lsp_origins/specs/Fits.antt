@@ -28,9 +28,8 @@ use Rattle.lsp_origins.specs.declared.suspects.Until.TheVariants as until
 
 -- it comes no later than the one by which the text came about
 abbrev pub is_reached : Until → SentEdits → Bool
-is_reached until.Held s = true
 is_reached (until.Version number) s = not (int_lt number s.number)
-is_reached (until.Message p number) s = true
+is_reached _ s = true
 
 abbrev pub reached : Until → List SentEdits → List SentEdits
 reached limit sent = take (prefix_len (is_reached limit) sent) sent

@@ -138,11 +138,6 @@ gives_by trial sent by =
     gives_so trial.docs.now.terms trial.encoding trial.text.now.content sent
     (chars trial.other.now) by
 
-abbrev pub lines_of_trial : Trial → List SentEdits → Option LinesBy
-lines_of_trial trial sent =
-    lines_by trial.docs.now.terms trial.encoding trial.text.now.content sent
-    (chars trial.other.now)
-
 abbrev pub facts_of_trial : Trial → List SentEdits → List Fact
 facts_of_trial trial sent =
     lines_facts trial.docs.now.terms trial.encoding trial.text.now.content sent

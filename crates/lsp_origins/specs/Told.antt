@@ -94,16 +94,9 @@ told_of terms enc limit setters shown sent call base texts =
     fits_fact (fitting_of terms enc limit sent call base texts)
     ++ taken_of terms enc limit setters shown sent call base texts
 
--- **the other encodings in which the suspects make the text that the editor had**, where a call
--- breaks this rule after these events
-abbrev pub fits : Terms → List Event → ℕ → Until → Call → List Encoding
-fits terms before rule limit call =
-    let kept = kept_of terms before in
-    fitting_of terms (agreed_encoding kept) limit (sent_since (uri_of call) (calls kept)) call
-    (base_at terms before (uri_of call)) (texts_of terms (calls kept) call rule)
-
--- **what is said of the suspects** where it does: these encodings, and those that would have to be
--- taken otherwise
+-- **what is said of the suspects** where a call breaks this rule after these events: the other
+-- encodings in which they make the text that the editor had, and those that would have to be taken
+-- otherwise
 abbrev pub told_facts : Terms → List Event → ℕ → Until → Call → List Fact
 told_facts terms before rule limit call =
     let kept = kept_of terms before in

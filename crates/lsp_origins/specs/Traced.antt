@@ -87,9 +87,8 @@ abbrev pub is_cleared : ℕ → VersionEvent → Bool
 is_cleared rank setter = not (nat_lt rank setter.rank)
 
 abbrev pub is_up_to : Until → VersionEvent → Bool
-is_up_to until.Held setter = true
 is_up_to (until.Version number) setter = not (int_lt number setter.version)
-is_up_to (until.Message p number) setter = true
+is_up_to _ setter = true
 
 abbrev pub after_equal : ℕ → List VersionEvent → List VersionEvent
 after_equal rank done = drop (prefix_len (is_cleared rank) done) done
@@ -148,8 +147,7 @@ closing_facts closing.Forgotten = []
 -- the event of this place comes after the closing, if one is known
 abbrev pub is_since : Closing → EventPlace → Bool
 is_since (closing.Last closed) p = nat_lt closed.event p.event
-is_since closing.Never p = true
-is_since closing.Forgotten p = true
+is_since _ p = true
 
 abbrev pub save_facts : Closing → EventPlace → List Fact
 save_facts closed p = if is_since closed p then cited (codes "saved-as") p ∷ [] else []

@@ -1,20 +1,19 @@
 //! With which other line ends the suspects make the text that the editor had.
-ghost use Rattle.std.specs.Prelude.{◌≡◌, ◌++◌, false, IfOk, OnOk, is_some, length, nat_lt};
+ghost use Rattle.std.specs.Prelude.{◌≡◌, ◌++◌, false, IfOk, OnOk, length, nat_lt};
 ghost use Rattle.std.specs.Prelude.{if◌then◌else◌, option_map, string_bytes};
 ghost use Rattle.std.specs.List.{find, list_any};
 ghost use Rattle.std.specs.Str.{chars};
 ghost use Rattle.lsp_text.specs.Changes.{edit_of, edits_of};
 ghost use Rattle.lsp_text.specs.Edits.{splice};
-ghost use Rattle.lsp_text.specs.Findings.{text_extent};
 ghost use Rattle.lsp_origins.specs.Fits.{suspects_view};
 ghost use Rattle.lsp_origins.specs.OtherLines as spec;
 ghost use Rattle.lsp_origins.specs.OtherLines.{edits_in};
 
 use crate::fits::{Suspect, Trial};
 use lsp_docs::has_text;
-use lsp_facts::Facts;
+use lsp_facts::{Facts, is_past};
 use lsp_rpc::{Encoding, Result};
-use lsp_text::{Plain, TextStore, line_at, width_of};
+use lsp_text::{Plain, TextStore};
 use lsp_types::{Change, Fault, Position};
 use std::alloc::Global;
 
@@ -314,16 +313,6 @@ fn place_in(
         Ok(place) => Ok(Some(place.chars)),
         Err(Fault::Rule(_)) => Ok(None),
         Err(Fault::Memory) => Ok(None),
-    }
-}
-
-/// Whether a position is past the end of its line, or of the text.
-fn is_past(text: &str, encoding: Encoding, position: Position) -> bool
-    ensures { result ≡ is_some (text_extent encoding (chars text.now) position) }
-{
-    match line_at(text, position.line) {
-        Some(line) => width_of(line, encoding) < position.column as u64,
-        None => true,
     }
 }
 

@@ -250,10 +250,7 @@ fn is_clear_of(part: &Suspect<'_>, more: &[Suspect<'_>]) -> bool
 fn range_in(part: &Suspect<'_>) -> Option<Span>
     ensures { result ≡ spec.range_in (suspect_view part.now) }
 {
-    match part.changes.first() {
-        Some(change) => change.span,
-        None => None,
-    }
+    part.changes.first()?.span
 }
 
 fn is_behind(later: Option<Span>, earlier: Option<Span>) -> bool

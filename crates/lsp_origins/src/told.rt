@@ -26,9 +26,6 @@ use lsp_trail::{Marks, Past, ShownText, VersionEvent};
 
 /// Adds what would have the suspects make the other text of a call that breaks 608 or 702. The past
 /// is of the events before it, and this was tried of its changes.
-///
-/// # Errors
-/// `Memory` where memory was refused.
 pub(crate) fn push_told(
     facts: &mut Facts,
     past: Past<'_>,

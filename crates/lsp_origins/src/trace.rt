@@ -44,9 +44,6 @@ use std::alloc::Global;
 
 /// What is said about a message of a side that offends by this rule, 301 to 504, with the events
 /// that brought it. The past is of the events before it.
-///
-/// # Errors
-/// `Memory` where memory was refused.
 pub(crate) fn message_traced(
     past: Past<'_>,
     side: Side,
@@ -70,9 +67,6 @@ pub(crate) fn message_traced(
 /// What is said about a call, if there is one, the event of this place, that offends by this rule,
 /// with the events that brought it. The past is of the events before it, and this was tried of its
 /// changes.
-///
-/// # Errors
-/// `Memory` where memory was refused.
 pub(crate) fn said_traced(
     past: Past<'_>,
     place: EventPlace,
@@ -152,10 +146,7 @@ fn setter_of(marks: &Marks, uri: &str) -> Result<Option<EventPlace>>
 fn last_place(setters: &[VersionEvent]) -> Option<EventPlace>
     ensures { result ≡ spec.last_place setters.now }
 {
-    match setters.last() {
-        Some(setter) => Some(setter.place),
-        None => None,
-    }
+    Some(setters.last()?.place)
 }
 
 /// Adds to the facts on a call, the event of this place, that breaks this rule, under 702 the
@@ -358,9 +349,6 @@ fn other_side(side: Side) -> Side
 /// What is said about a session that ends and is not complete: the requests of the editor's that
 /// wait, in the order in which they were sent, with the events that sent them; how far the session
 /// has come, and the event that led there. The past is of all its events.
-///
-/// # Errors
-/// `Memory` where memory was refused.
 pub(crate) fn lack_traced(past: Past<'_>) -> Result<Facts>
     ensures { IfOk result (λ facts. (before : List Event) → StandsAfter past.entry before
         → facts ≡ spec.lack_traced (numbered (terms_in past.entry) before)) }

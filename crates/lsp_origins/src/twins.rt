@@ -7,9 +7,6 @@ use lsp_rpc::{Id, Result};
 use std::alloc::Global;
 
 /// The id of the other type that is written in the same way, if there is one: `7` and `"7"`.
-///
-/// # Errors
-/// `Memory` where memory was refused.
 pub(crate) fn twin_of(alloc: Global, id: &Id) -> Result<Option<Id>>
     ensures { IfOk result (λ twin. option_map id_view twin ≡ spec.twin (id_view id.now)) }
 {

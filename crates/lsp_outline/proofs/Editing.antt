@@ -18,12 +18,8 @@ small_natural n h =
 
 -- an integer is an id
 pub number_id : (d : Data) (z : ℤ) → as_integer d ≡ Some z → as_id d ≡ Some (ident.number z)
-number_id null z h = absurd (cc)
-number_id (boolean b) z h = absurd (cc)
 number_id (number n) z h = ap (option_map ident.number) h
-number_id (string s) z h = absurd (cc)
-number_id (array ds) z h = absurd (cc)
-number_id (object ms) z h = absurd (cc)
+number_id _ z h = absurd (cc)
 
 -- ---- members
 

@@ -52,15 +52,7 @@ notice_meant methods.DidChange d act h =
     sym (mapped _ document_of (member (codes "textDocument") d)) ∙ h
 notice_meant methods.DidClose d act h = sym (closed_at (member (codes "textDocument") d)) ∙ h
 notice_meant methods.DidSave d act h = sym (saved_at (member (codes "textDocument") d) _) ∙ h
-notice_meant methods.Initialize d act h = absurd (cc)
-notice_meant methods.Initialized d act h = absurd (cc)
-notice_meant methods.Shutdown d act h = absurd (cc)
-notice_meant methods.Exit d act h = absurd (cc)
-notice_meant methods.Cancel d act h = absurd (cc)
-notice_meant methods.Progress d act h = absurd (cc)
-notice_meant methods.Register d act h = absurd (cc)
-notice_meant methods.Early d act h = absurd (cc)
-notice_meant methods.Other d act h = absurd (cc)
+notice_meant _ d act h = absurd (cc)
 
 -- ---- messages
 

@@ -72,12 +72,9 @@ id_of_response d (Some i) h =
     (good, own)
 
 pub some_id : (d : Data) (i : Ident) → as_id d ≡ Some i → id_in d ≡ Some (Some i)
-some_id null i h = absurd (cc)
-some_id (boolean b) i h = absurd (cc)
 some_id (number n) i h = ap (option_map Some) h
 some_id (string s) i h = ap (option_map Some) h
-some_id (array ds) i h = absurd (cc)
-some_id (object ms) i h = absurd (cc)
+some_id _ i h = absurd (cc)
 
 -- ---- the message
 
@@ -162,22 +159,19 @@ module _ (ms : Members) (version : get_member (codes "jsonrpc") ms ≡ Some (str
       let value = there _ r in
       result_made id d.0 value.0 m method d.1 (id_of_response d.0 id d.2) value.1
       (absent code_of _ e) is
-  response_made id true (Some code) m method own r e is = absurd (cc)
-  response_made id false None m method own r e is = absurd (cc)
   response_made id false (Some code) m method own r e is =
       let d = present id_in _ (Some id) own in
       let fault = present code_of _ (Some code) e in
       error_made id d.0 fault.0 code m method d.1 (id_of_response d.0 id d.2) (missing _ r)
       fault.1 fault.2 is
+  response_made id _ _ m method own r e is = absurd (cc)
 
 -- where the outline lacks no result, it lacks the params alone
 pub lacks_params : (m whole : Message) → lacks_result m ≡ false → m ≡ outline whole
     → m ≡ without_params whole
-lacks_params m (request id method params) none h = h
-lacks_params m (notification method params) none h = h
 lacks_params m (response id (result value)) none h =
     absurd (true≢false (sym (ap lacks_result h) ∙ none))
-lacks_params m (response id (error code)) none h = h
+lacks_params m _ none h = h
 
 pub what_is_left : (results : Results) (m whole : Message)
     → (results ≡ LeftOut) ⊎ (lacks_result m ≡ false) → m ≡ outline whole

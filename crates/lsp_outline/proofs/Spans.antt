@@ -34,8 +34,4 @@ span_read x kept is =
 pub given_span : (x : Data) (span : Span) → span_at x ≡ Some span
     → if_given span_at (unless_null x) ≡ Some (Some span)
 given_span null span is = absurd (cc)
-given_span (boolean b) span is = ap (option_map Some) is
-given_span (number n) span is = ap (option_map Some) is
-given_span (string t) span is = ap (option_map Some) is
-given_span (array ds) span is = ap (option_map Some) is
-given_span (object ms) span is = ap (option_map Some) is
+given_span _ span is = ap (option_map Some) is

@@ -47,9 +47,7 @@ pub ends_are : (completeness : Completeness) (events kept : List Event) (editor 
     ≡ map by_itself (first_ends None (rests_listed events editor server)
     (lacks_listed completeness events kept))
 ends_are completeness events kept true true = refl
-ends_are completeness events kept true false = refl
 ends_are completeness events kept false true = refl
-ends_are Ignored events kept false false = refl
 ends_are Required events kept false false = by_rule (incomplete (sent_in kept))
   where
     by_rule : (o : Option ℕ)
@@ -58,6 +56,7 @@ ends_are Required events kept false false = by_rule (incomplete (sent_in kept))
         (option_to_list (option_map (λ (rule : ℕ). no_next rule who.Editor events) o))
     by_rule None = refl
     by_rule (Some rule) = refl
+ends_are _ events kept _ _ = refl
 
 -- ---- few
 
@@ -75,17 +74,14 @@ pub ends_few : (flaw : Option (ℕ × LogCode)) (events kept : List Event) (edit
     (completeness : Completeness)
     → length (first_ends flaw (rests_listed events editor server)
     (lacks_listed completeness events kept)) ≤ 2
-ends_few (Some flaw) events kept editor server completeness = omega arith
 ends_few None events kept true true completeness = omega arith
-ends_few None events kept true false completeness = omega arith
-ends_few None events kept false true completeness = omega arith
-ends_few None events kept false false Ignored = omega arith
 ends_few None events kept false false Required = by_rule (incomplete (sent_in kept))
   where
     by_rule : (o : Option ℕ)
         → length (option_to_list (option_map (λ (r : ℕ). no_next r who.Editor events) o)) ≤ 2
     by_rule None = omega arith
     by_rule (Some rule) = omega arith
+ends_few _ events kept _ _ _ = omega arith
 
 -- ---- the end of a log, and the verdict where nothing was found
 

@@ -97,10 +97,8 @@ no_message_in Server events = refl
 
 -- an error without an id is one whatever it answers
 nameless_outline : (m : Message) → is_nameless m ≡ is_nameless (outline m)
-nameless_outline (request id method params) = refl
-nameless_outline (notification method params) = refl
 nameless_outline (response id (result value)) = refl
-nameless_outline (response id (error code)) = refl
+nameless_outline _ = refl
 
 module _ (rule : ℕ) (side : Side) (s : Sides) (events : List Event) (are : s ≡ sides_of events)
   where

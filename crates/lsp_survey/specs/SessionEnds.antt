@@ -31,8 +31,7 @@ listed_by broken events = map by_itself
 -- what is listed behind the rule that is broken first: the server's 107, where the editor has one
 abbrev pub second_end : Bool → Bool → Option (ℕ × Who)
 second_end true true = Some (rules.STREAM_ENDS_INSIDE_FRAME, who.Server)
-second_end true false = None
-second_end false server = None
+second_end _ _ = None
 
 -- ---- the end of any log, and the verdict on all that is listed of it
 

@@ -54,9 +54,6 @@ impl OffenceCount {
     }
 
     /// Counts an offence, and adds its lines to a text where it is listed.
-    ///
-    /// # Errors
-    /// `Memory` where memory was refused.
     pub(crate) fn list(
         &mut self,
         listing: Listing,
@@ -78,9 +75,6 @@ impl OffenceCount {
     }
 
     /// Does what [`list`](OffenceCount::list) does with one offence after another.
-    ///
-    /// # Errors
-    /// `Memory` where memory was refused.
     pub(crate) fn list_all(
         &mut self,
         listing: Listing,
@@ -150,9 +144,6 @@ impl OffenceCount {
 }
 
 /// The verdict where nothing is listed: the fault of the log, else Yes.
-///
-/// # Errors
-/// `Memory` where memory was refused.
 fn sound(held: &Events<Lined>, bad: Option<Verdict>) -> Result<Verdict>
     ensures { IfOk result (λ verdict. (events : List Event)
         → Follows held.now.session held.now.docs held.now.counts events

@@ -127,9 +127,6 @@ pub sends_none : (uri : Bytes) (c : code.Call) (more : SentEdits)
     → ((encoding : Encoding) (kind : SyncKind) (u : Bor (List ℕ)) (number : ℤ)
     (cs : Bor (List Change)) → c ≡ Changes encoding kind u number cs → ⊥)
     → sent_by uri (call_view c) ≡ Some more → ⊥
-sends_none uri (Opens u number text) more not is = none-some more is
 sends_none uri (Changes encoding kind u number cs) more not is =
     not encoding kind u number cs refl
-sends_none uri (Closes u) more not is = none-some more is
-sends_none uri (Saves u text) more not is = none-some more is
-sends_none uri (Shows u number text) more not is = none-some more is
+sends_none uri _ more not is = none-some more is

@@ -114,14 +114,13 @@ number_found n kept v has =
 
 any-drop : (p : Version → Bool) (k : ℕ) (vs : List Version) → list_any p (drop k vs) ≡ true
     → list_any p vs ≡ true
-any-drop p zero vs any = any
-any-drop p (suc k) [] any = any
 any-drop p (suc k) (v ∷ vs) any =
     ap (λ (b : Bool). p v || b) (any-drop p k vs any) ∙ either (p v)
   where
     either : (b : Bool) → (b || true) ≡ true
     either true = refl
     either false = refl
+any-drop p _ _ any = any
 
 -- what is kept with one version more was kept or held
 kept_less : (m : ℕ) (vs : List Version) (v w : Version) (n : ℤ)
@@ -130,9 +129,8 @@ kept_less : (m : ℕ) (vs : List Version) (v w : Version) (n : ℤ)
 kept_less m vs v w n has = by_test (list_any (is_at n) (last_of m (vs ++ v ∷ []))) refl
   where
     old_one : (a b : Bool) → (a || (b || false)) ≡ true → (a || b) ≡ true
-    old_one true b p = refl
-    old_one false true p = refl
     old_one false false p = p
+    old_one _ _ p = refl
 
     by_test : (b : Bool) → list_any (is_at n) (last_of m (vs ++ v ∷ [])) ≡ b
         → (n ≡ w.number) ⊎ (has_number n (last_of m vs) (Some v) ≡ true)

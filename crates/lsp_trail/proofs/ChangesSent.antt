@@ -72,15 +72,12 @@ module _ (terms : Terms) (uri : Bytes) where
   other_next : (c : Call) → bytes_eq uri (uri_of c) ≡ false → (h : Option Version)
       → next_held terms uri h c ≡ h
   other_next (opens u n t) p None = rw p refl
-  other_next (opens u n t) p (Some v) = refl
-  other_next (changes enc k u n cs) p None = refl
   other_next (changes enc k u n cs) p (Some v) = rw p refl
   other_next (closes u) p None = rw p refl
   other_next (closes u) p (Some v) = rw p refl
   other_next (saves u t) p None = refl
-  other_next (saves u t) p (Some v) = refl
   other_next (shows u n t) p None = refl
-  other_next (shows u n t) p (Some v) = refl
+  other_next _ p _ = refl
 
   -- one of another document
   pub leaves_other : (before : List Call) (c : Call) → bytes_eq uri (uri_of c) ≡ false

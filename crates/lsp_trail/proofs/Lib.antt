@@ -1,8 +1,6 @@
 pub mod Marking
-pub mod MarksWorked
 pub mod History
 pub mod RenameSteps
-pub mod RenamesWorked
 pub mod SessionSteps
 pub mod Waiting
 pub mod Methods

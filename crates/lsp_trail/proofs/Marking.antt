@@ -220,16 +220,6 @@ step_there uri p step was now old new there is put =
     steps_on uri p step (Some (mark_view now)) old new put
     (is ∙ ap (stepped p step) (sym (ap (λ (o : Option Marked). unwrap_or o unmarked) there)))
 
--- a step that marks nothing
-pub none_marked : (uri : List ℕ) (p : EventPlace) (step : Step) (es : Entries)
-    → ((m : Marked) → stepped p step m ≡ m) → StepsOn uri p step es es
-none_marked uri p step es none u = by_test (bytes_eq uri u)
-  where
-    by_test : (b : Bool)
-        → marked_in es u ≡ (if b then stepped p step (marked_in es u) else marked_in es u)
-    by_test true = sym (none (marked_in es u))
-    by_test false = refl
-
 -- ---- the marks by URI: all of them
 
 -- **what is marked stands for one more kept call too**

@@ -28,21 +28,16 @@ use Rattle.lsp_trail.specs.Naming.{version_named_at}
 -- ---- whether it may name one
 
 is_call-outline : (m : Message) → is_call m ≡ is_call (outline m)
-is_call-outline (request own method params) = refl
-is_call-outline (notification method params) = refl
 is_call-outline (response own (result value)) = refl
-is_call-outline (response own (error code)) = refl
+is_call-outline _ = refl
 
 diagnoses-outline : (m : Message) → diagnoses m ≡ diagnoses (outline m)
-diagnoses-outline (request own method params) = refl
-diagnoses-outline (notification method params) = refl
 diagnoses-outline (response own (result value)) = refl
-diagnoses-outline (response own (error code)) = refl
+diagnoses-outline _ = refl
 
 diagnosis_calls : (m : Message) → diagnoses m ≡ true → is_call m ≡ true
-diagnosis_calls (request own method params) is = refl
-diagnosis_calls (notification method params) is = refl
 diagnosis_calls (response own reply) is = absurd (cc is)
+diagnosis_calls _ is = refl
 
 -- ---- which one
 
@@ -59,20 +54,14 @@ made_with : (b : Bool) (name : Option (List ℕ)) (id : Option Ident) (own : Opt
 made_with true (Some name) (Some id) own answer m made is =
     sym (ap (option_and_then params_of) made)
 made_with true (Some name) None own answer m made is = sym (ap (option_and_then params_of) made)
-made_with true None id own answer m made is = absurd (cc made)
 made_with false name id own (Some reply) m made is = absurd (cc (ap calls made ∙ is))
-made_with false name id own None m made is = absurd (cc made)
+made_with _ _ id own _ m made is = absurd (cc made)
 
 -- null has no members
 null_gives : {X : Type 0} (shape : Data → Option X) → shape null ≡ None → (own : Option Data)
     → option_and_then shape (option_and_then unless_null own) ≡ option_and_then shape own
-null_gives shape none None = refl
 null_gives shape none (Some null) = sym none
-null_gives shape none (Some (boolean b)) = refl
-null_gives shape none (Some (number n)) = refl
-null_gives shape none (Some (string s)) = refl
-null_gives shape none (Some (array ds)) = refl
-null_gives shape none (Some (object ms)) = refl
+null_gives shape none _ = refl
 
 -- **a content has the params of its message**
 params_so : {X : Type 0} (shape : Data → Option X) → shape null ≡ None → (bytes : List ℕ)
@@ -106,9 +95,8 @@ module _ (m said : Message) (same : outline m ≡ outline said) where
   unnamed is = none_in m (calls_alike ∙ is)
     where
       none_in : (w : Message) → is_call w ≡ false → None ≡ version_named Editor w
-      none_in (request own method params) not = absurd (cc not)
-      none_in (notification method params) not = absurd (cc not)
       none_in (response own reply) not = refl
+      none_in _ not = absurd (cc not)
 
   named_if : (b : Bool) → diagnoses m ≡ b
       → version_named Server m ≡ (if b then option_and_then versioned_at (params_of m) else None)
@@ -129,19 +117,15 @@ module _ (m said : Message) (same : outline m ≡ outline said) where
 pub silent : (event : Event) → ((sent : Sent) → event ≡ message sent → ⊥)
     → None ≡ version_named_at event
 silent (message m) not = absurd (not m refl)
-silent (fault side rule) not = refl
-silent (snapshot uri version text) not = refl
+silent _ not = refl
 
 pub silent_raw : (raw : code_raw.Raw) (event : Event)
     → ((side : Side) (bytes behind : Bor (List ℕ)) → raw ≡ raws.Content side bytes behind → ⊥)
     → Reads (raw_view raw) event → None ≡ version_named_at event
 silent_raw (raws.Content side bytes behind) event not reads = absurd (not side bytes behind refl)
 silent_raw (raws.Broken side rule rest) (message m) not reads = absurd (cc reads)
-silent_raw (raws.Broken side rule rest) (fault own by) not reads = refl
-silent_raw (raws.Broken side rule rest) (snapshot uri version text) not reads = refl
 silent_raw (raws.Snapshot version uri text) (message m) not reads = absurd (cc reads)
-silent_raw (raws.Snapshot version uri text) (fault own by) not reads = refl
-silent_raw (raws.Snapshot version uri text) (snapshot own v t) not reads = refl
+silent_raw _ _ not reads = refl
 
 -- ---- a message
 

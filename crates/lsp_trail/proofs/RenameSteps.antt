@@ -82,32 +82,25 @@ pub no_edit : (call : Call) (said : Took) (p : EventPlace) (moved : List Move)
     → step_of call said ≡ None → renamed_by p moved call ≡ None
 no_edit (opens uri number text) said p moved is = absurd (cc is)
 no_edit (changes enc kind uri number edits) said p moved is = absurd (cc is)
-no_edit (closes uri) said p moved is = refl
-no_edit (saves uri text) said p moved is = refl
-no_edit (shows uri number text) said p moved is = refl
+no_edit _ said p moved is = refl
 
 -- ---- a message that says nothing of files
 
 pub notifies-outline : (m : Message) → notifies_files m ≡ notifies_files (outline m)
-notifies-outline (request own method params) = refl
-notifies-outline (notification method params) = refl
 notifies-outline (response own (result value)) = refl
-notifies-outline (response own (error code)) = refl
+notifies-outline _ = refl
 
 by_tests : (a b : Bool) (x y : Option (List Move)) → (a || b) ≡ false
     → or_none (if a then x else (if b then y else None)) ≡ []
-by_tests true b x y is = absurd cc
-by_tests false true x y is = absurd cc
 by_tests false false x y is = refl
+by_tests _ _ x y is = absurd cc
 
 silent : (m : Message) → notifies_files m ≡ false → moves_in m ≡ []
-silent (request id method params) is = refl
-silent (notification method None) is = refl
 silent (notification method (Some params)) is =
     by_tests (bytes_eq method (codes "workspace/didRenameFiles"))
     (bytes_eq method (codes "workspace/didCreateFiles")) (renames_in params) (creations_in params)
     is
-silent (response id reply) is = refl
+silent _ is = refl
 
 untold : (side : Side) (m said : Message) → outline m ≡ outline said
     → tells_files side said ≡ false → moves_by side m ≡ []

@@ -53,8 +53,5 @@ saved_unopened terms before uri t =
 -- what a call saves that is not open is the same before it and after it
 pub save_same : (terms : Terms) (before : List Call) (call : Call)
     → unopened_save terms (before ++ call ∷ []) call ≡ unopened_save terms before call
-save_same terms before (opens uri n t) = refl
-save_same terms before (changes enc kind uri n cs) = refl
-save_same terms before (closes uri) = refl
 save_same terms before (saves uri t) = saved_unopened terms before uri t
-save_same terms before (shows uri n t) = refl
+save_same terms before _ = refl

@@ -71,10 +71,8 @@ alike f m said each same = each said ∙ sym (ap f same) ∙ sym (each m)
 
 pub misuse-outline : (p : EventPlace) (side : Side) (m : Message)
     → misuse_in p side m ≡ misuse_in p side (outline m)
-misuse-outline p side (request own method params) = refl
-misuse-outline p side (notification method params) = refl
 misuse-outline p side (response own (result value)) = refl
-misuse-outline p side (response own (error code)) = refl
+misuse-outline p side _ = refl
 
 misuses_after-push : (found xs : List Misused) (x : Misused)
     → misuses_after found (xs ++ x ∷ []) ≡ with_misuse (misuses_after found xs) (Some x)
@@ -123,10 +121,9 @@ settles opens side m said s is (inr same) =
 
     by_parts : (offer : Option Offer) (value : Option Data) → settled_at offer value ≡ Some s
         → value ≡ Some s.value
-    by_parts None value e = absurd cc
-    by_parts (Some offer) None e = absurd cc
     by_parts (Some offer) (Some value) e =
         ap (λ (w : Settled). let o : Option Data = Some w.value in o) (same_Some _ s e)
+    by_parts _ _ e = absurd cc
 
 abbrev older_by : Option Settled → Option (List ℕ)
 older_by o = option_and_then (λ s. older_in s.value) o
@@ -136,10 +133,9 @@ older_more : (before by : Option Settled) (said : Message) (old new : Option (Li
     → ((s : Settled) → by ≡ Some s → result_of said ≡ Some s.value) → old ≡ older_by before
     → new ≡ (if not (is_some before) && is_some (option_or before by) then older_of said else old)
     → new ≡ older_by (option_or before by)
-older_more (Some s) by said old new has are more = more ∙ are
-older_more None None said old new has are more = more ∙ are
 older_more None (Some s) said old new has are more =
     more ∙ ap (option_and_then older_in) (has s refl)
+older_more _ _ said old new has are more = more ∙ are
 
 -- ---- one message more
 
@@ -224,17 +220,13 @@ called terms events m p =
 
 pub asks-outline : (side : Side) (id : Ident) (p : EventPlace) (sender : Side) (m : Message)
     → asks side id p sender m ≡ asks side id p sender (outline m)
-asks-outline side id p sender (request own method params) = refl
-asks-outline side id p sender (notification method params) = refl
 asks-outline side id p sender (response own (result value)) = refl
-asks-outline side id p sender (response own (error code)) = refl
+asks-outline side id p sender _ = refl
 
 pub answered-outline : (side sender : Side) (m : Message)
     → answered_from side sender m ≡ answered_from side sender (outline m)
-answered-outline side sender (request own method params) = refl
-answered-outline side sender (notification method params) = refl
 answered-outline side sender (response own (result value)) = refl
-answered-outline side sender (response own (error code)) = refl
+answered-outline side sender _ = refl
 
 -- ---- the requests of one side
 

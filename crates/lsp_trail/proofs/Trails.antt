@@ -85,8 +85,7 @@ pub no_content : (raw : lent.Raw) (sent : Sent)
     → ((side : Side) (bytes behind : Bor (List ℕ)) → raw ≡ lents.Content side bytes behind → ⊥)
     → Reads (raw_view raw) (message sent) → ⊥
 no_content (lents.Content side bytes behind) sent not reads = not side bytes behind refl
-no_content (lents.Broken side rule rest) sent not reads = absurd (cc reads)
-no_content (lents.Snapshot version uri text) sent not reads = absurd (cc reads)
+no_content _ sent not reads = absurd (cc reads)
 
 -- of one that is not kept
 pub fate_offends : (terms : Terms) (before : List Heard) (h : Heard) (f : Fate)

@@ -16,17 +16,15 @@ use Rattle.lsp_verdict.specs.Event.{Event, sent_of}
 -- ---- whether a message may name one
 
 abbrev pub is_call : Message → Bool
-is_call (request id method params) = true
-is_call (notification method params) = true
 is_call (response id reply) = false
+is_call _ = true
 
 abbrev pub is_diagnostics : List ℕ → Bool
 is_diagnostics method = bytes_eq method (codes "textDocument/publishDiagnostics")
 
 abbrev pub diagnoses : Message → Bool
-diagnoses (request id method params) = false
 diagnoses (notification method params) = is_diagnostics method
-diagnoses (response id reply) = false
+diagnoses _ = false
 
 -- ---- which one
 

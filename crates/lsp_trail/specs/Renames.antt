@@ -66,9 +66,8 @@ abbrev pub or_none : Option (List Move) → List Move
 or_none moved = unwrap_or moved []
 
 abbrev pub moves_in : Message → List Move
-moves_in (request id method params) = []
 moves_in (notification method params) = or_none (option_and_then (moves_of method) params)
-moves_in (response id reply) = []
+moves_in _ = []
 
 -- only the editor says it
 abbrev pub moves_by : Side → Message → List Move
@@ -169,9 +168,8 @@ is_on_files method =
     || bytes_eq method (codes "workspace/didCreateFiles")
 
 abbrev pub notifies_files : Message → Bool
-notifies_files (request id method params) = false
 notifies_files (notification method params) = is_on_files method
-notifies_files (response id reply) = false
+notifies_files _ = false
 
 abbrev pub tells_files : Side → Message → Bool
 tells_files Editor m = notifies_files m

@@ -84,9 +84,6 @@ impl Base {
 
     /// Adds the changes of a message that set this version. Where there is no room for them, the
     /// first ones are let go of, and with them the text.
-    ///
-    /// # Errors
-    /// `Memory` where memory was refused.
     pub(crate) fn add(&mut self, version: i32, changes: &[Change]) -> Result<()>
         ensures { OnOk result (AddsTo (sent_edits version (edits_of changes.now))
             self.old self.new) }

@@ -15,7 +15,7 @@ use crate::copies::write_over;
 use lsp_docs::Call;
 use lsp_replay::EventPlace;
 use lsp_rpc::Result;
-use lsp_types::{Change, Position, Span};
+use lsp_types::Change;
 use std::alloc::Global;
 
 /// How large the changes of the message are at most together, if they are held.
@@ -44,9 +44,6 @@ impl LastChange {
     }
 
     /// Keeps what a kept event, that of this place, says about a document, if it changes it.
-    ///
-    /// # Errors
-    /// `Memory` where memory was refused; nothing is then known of what is held.
     #[inline(always)]
     pub(crate) fn keep(&mut self, place: &EventPlace, call: Call<'_>) -> Result<()>
         ensures { OnOk result (last_view self.new
@@ -139,33 +136,7 @@ fn same_changes(changes: &[Change], others: &[Change]) -> bool
 fn same_change(change: &Change, other: &Change) -> bool
     ensures { result ≡ spec.same_edit (edit_of change.now) (edit_of other.now) }
 {
-    same_span(change.span, other.span) && same_text(change.text.as_str(), other.text.as_str())
-}
-
-fn same_span(span: Option<Span>, other: Option<Span>) -> bool
-    ensures { result ≡ spec.same_span span other }
-{
-    match span {
-        Some(span) => is_span(span, other),
-        None => other.is_none(),
-    }
-}
-
-fn is_span(span: Span, other: Option<Span>) -> bool
-    ensures { result ≡ spec.same_span (Some span) other }
-{
-    match other {
-        Some(other) => {
-            same_position(span.first, other.first) && same_position(span.second, other.second)
-        }
-        None => false,
-    }
-}
-
-fn same_position(position: Position, other: Position) -> bool
-    ensures { result ≡ spec.same_position position other }
-{
-    position.line == other.line && position.column == other.column
+    change.span == other.span && same_text(change.text.as_str(), other.text.as_str())
 }
 
 fn same_text(text: &str, other: &str) -> bool

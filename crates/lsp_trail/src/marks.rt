@@ -62,10 +62,7 @@ impl Marks {
         ensures { (terms : Terms) (events : List Event) → AreMarks terms self.now.map.entries events
             → result ≡ opened (steps terms uri.now events) }
     {
-        match self.map.get(uri) {
-            Some(mark) => mark.opened,
-            None => None,
-        }
+        self.map.get(uri)?.opened
     }
 
     /// Of the snapshots that were found equal in the standing opening of a URI, that of the
@@ -74,10 +71,7 @@ impl Marks {
         ensures { (terms : Terms) (events : List Event) → AreMarks terms self.now.map.entries events
             → result ≡ agreed (steps terms uri.now events) }
     {
-        match self.map.get(uri) {
-            Some(mark) => mark.agreed,
-            None => None,
-        }
+        self.map.get(uri)?.agreed
     }
 
     /// The places of the snapshots of a URI that wait for this version, in order.
@@ -93,9 +87,6 @@ impl Marks {
 
     /// Marks what a kept event, that of this place, does to the document of a URI. Answers whether
     /// a snapshot is found equal by it.
-    ///
-    /// # Errors
-    /// `Memory` where memory was refused; nothing is then known of the marks.
     #[inline(always)]
     pub(crate) fn keep(&mut self, place: &EventPlace, uri: &str, step: &Step) -> Result<bool>
         ensures marked { OnOk result (StepsOn uri.now place.now step.now self.old.map.entries

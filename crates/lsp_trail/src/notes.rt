@@ -46,9 +46,6 @@ impl Notes {
 
     /// Adds a message that is kept, the event of this place, before and after which the
     /// session is in these phases, and after which the handshake is settled or is not.
-    ///
-    /// # Errors
-    /// `Memory` where memory was refused.
     pub(crate) fn keep(
         &mut self,
         place: EventPlace,

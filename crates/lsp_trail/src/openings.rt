@@ -120,9 +120,6 @@ impl Openings {
     }
 
     /// Adds what a kept event, that of this place, does to the document of a URI.
-    ///
-    /// # Errors
-    /// `Memory` where memory was refused; nothing is then known of what is held.
     #[inline(always)]
     pub(crate) fn keep(&mut self, place: &EventPlace, uri: &str, step: &Step) -> Result<()>
         ensures { OnOk result (OpensBy (kept_call uri.now place.now step.now) self.old self.new) }

@@ -65,9 +65,6 @@ impl Renames {
     }
 
     /// Adds a message that is kept and says nothing of a document, read from this content.
-    ///
-    /// # Errors
-    /// `Memory` where memory was refused.
     pub(crate) fn keep(&mut self, side: Side, message: &Message, content: &[u8]) -> Result<()>
         ensures { OnOk result ((p : Place) → RenamesIn p side content.now
             (message_view message.now) None self.old self.new) }
@@ -80,9 +77,6 @@ impl Renames {
 
     /// Keeps a call, of the event of this place, if it is the first under a URI that is gone.
     /// Usually nothing is held about files.
-    ///
-    /// # Errors
-    /// `Memory` where memory was refused.
     #[inline(always)]
     pub(crate) fn keep_call(&mut self, place: &EventPlace, call: Call<'_>) -> Result<()>
         ensures moves { self.new.moves ≡ self.old.moves }

@@ -51,9 +51,6 @@ impl Saves {
 
     /// Keeps what a kept event, that of this place, says about a document, if it saves one that is
     /// not open.
-    ///
-    /// # Errors
-    /// `Memory` where memory was refused; nothing is then known of what is held.
     #[inline(always)]
     pub(crate) fn keep(
         &mut self,

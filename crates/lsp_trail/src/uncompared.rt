@@ -51,18 +51,11 @@ impl Uncompared {
             ≡ spec.if_later version (uncompared_in self.now.map.entries uri.now) }
     {
         let shown = self.map.get(uri)?;
-        if version < shown.version {
-            Some(shown)
-        } else {
-            None
-        }
+        (version < shown.version).then_some(shown)
     }
 
     /// Keeps what a kept event, that of this place, leaves of a document, if it closes it, or is a
     /// snapshot that is not compared.
-    ///
-    /// # Errors
-    /// `Memory` where memory was refused; nothing is then known of what is held.
     #[inline(always)]
     pub(crate) fn keep(&mut self, place: &EventPlace, call: Call<'_>, took: Took) -> Result<()>
         ensures { OnOk result (LeavesOn (spec.left_by place.now (call_view call.entry) took)

@@ -25,13 +25,10 @@ below a b = cond (ltb a b) 255 0
 any_of : (a b e : Bool) → top 7 (bit_or (bit_or (cond a 255 0) (cond b 255 0)) (cond e 255 0))
     ≡ (a || b || e)
 any_of true true true = refl
-any_of true true false = refl
 any_of true false true = refl
-any_of true false false = refl
 any_of false true true = refl
-any_of false true false = refl
 any_of false false true = refl
-any_of false false false = refl
+any_of _ _ _ = refl
 
 lane_by_lane : (v : List ℕ)
     → map (top 7) (zip2 bit_or (zip2 bit_or (map (λ x. hit x 34) v) (map (λ x. hit x 92) v))

@@ -38,11 +38,10 @@ lex_close xs = refl
 no_mark : (q b o s : Bool) (x : ℕ) (xs : List ℕ) (k : Mode → List Lexeme) → q ≡ false → b ≡ false
     → lex_byte in_string (cond q quote (cond b backslash (cond o operator (cond s space other)))) x
     xs k ≡ k in_string
-no_mark true b o s x xs k q h = absurd (cc)
-no_mark false true o s x xs k q h = absurd (cc)
 no_mark false false true s x xs k q h = refl
 no_mark false false false true x xs k q h = refl
 no_mark false false false false x xs k q h = refl
+no_mark _ _ o s x xs k q h = absurd (cc)
 
 pub lex_plain : (x : ℕ) (xs : List ℕ) → is_plain x ≡ true
     → lex in_string (x ∷ xs) ≡ lex in_string xs
@@ -89,32 +88,20 @@ pub string_first : (p : Place) (s : List ℕ) (ls : List Lexeme) → begins_colo
 string_first p s ls none may = string_by _ p s ls refl none may
 
 abbrev is_plain_word : Token → Bool
-is_plain_word begin_object = false
-is_plain_word end_object = false
-is_plain_word begin_array = false
-is_plain_word end_array = false
-is_plain_word (key s) = false
-is_plain_word (string s) = false
 is_plain_word (number s) = true
 is_plain_word (boolean b) = true
 is_plain_word null = true
-is_plain_word bad = false
+is_plain_word _ = false
 
 pub word_first : (p : Place) (t : Token) (ls : List Lexeme) → is_plain_word t ≡ true
     → may_begin p ≡ true → punctuate p (token t ∷ ls) ≡ t ∷ punctuate after_value ls
 unfolding punctuate
-word_first p begin_object ls is may = absurd (cc)
-word_first p end_object ls is may = absurd (cc)
-word_first p begin_array ls is may = absurd (cc)
-word_first p end_array ls is may = absurd (cc)
-word_first p (key s) ls is may = absurd (cc)
-word_first p (string s) ls is may = absurd (cc)
 word_first p (number s) ls is may =
     allowed (may_begin p) (number s) (λ next. punctuate next ls) after_value may
 word_first p (boolean b) ls is may =
     allowed (may_begin p) (boolean b) (λ next. punctuate next ls) after_value may
 word_first p null ls is may = allowed (may_begin p) null (λ next. punctuate next ls) after_value may
-word_first p bad ls is may = absurd (cc)
+word_first p _ ls is may = absurd (cc)
 
 pub object_first : (p : Place) (ls : List Lexeme) → may_begin p ≡ true
     → punctuate p (token begin_object ∷ ls) ≡ begin_object ∷ punctuate fresh ls

@@ -72,19 +72,15 @@ lane_by_lane : (xs ys zs : List ℕ)
     (zip2 bit_and (map (λ x. hit x 44) xs) (zip2 bit_or (map (λ y. hit y 44) ys)
     (zip2 bit_and (map (λ y. hit y 48) ys) (map (λ z. miss z 44) zs))))))
     ≡ fault_lanes xs ys zs
-lane_by_lane [] ys zs = refl
-lane_by_lane (x ∷ xs) [] zs = refl
-lane_by_lane (x ∷ xs) (y ∷ ys) [] = refl
 lane_by_lane (x ∷ xs) (y ∷ ys) (z ∷ zs) =
     ap₂ (λ b bs. b ∷ bs)
     (fault_lane (ltb 57 x) (ltb x 48) (not (x == 44)) (x == 44) (y == 44) (y == 48) (not (z == 44)))
     (lane_by_lane xs ys zs)
+lane_by_lane _ _ _ = refl
 
 length-fault_lanes : (xs ys zs : List ℕ) → length (fault_lanes xs ys zs) ≤ length xs
-length-fault_lanes [] ys zs = omega arith
-length-fault_lanes (x ∷ xs) [] zs = omega arith
-length-fault_lanes (x ∷ xs) (y ∷ ys) [] = omega arith
 length-fault_lanes (x ∷ xs) (y ∷ ys) (z ∷ zs) = omega (arith, length-fault_lanes xs ys zs)
+length-fault_lanes _ _ _ = omega arith
 
 pub marked_faults : (xs ys zs : List ℕ) → length xs ≡ 16 → length ys ≡ 16 → length zs ≡ 16
     → mask_l (map (top 7) (zip2 bit_or (zip2 below (replicate 16 57) xs)
@@ -108,10 +104,9 @@ marked_faults xs ys zs long_x long_y long_z =
 
 -- where no bit is set, each is false
 none_set : (ms : List Bool) (k : ℕ) → mask_l ms ≡ 0 → get_or ms k false ≡ false
-none_set [] k none = refl
 none_set (true ∷ ms) k none = absurd (omega (arith, none))
-none_set (false ∷ ms) zero none = refl
 none_set (false ∷ ms) (suc k) none = none_set ms k (omega (arith, none))
+none_set _ _ none = refl
 
 one_at_most : (b : Bool) → cond b 1 0 ≤ 1
 one_at_most true = omega arith

@@ -155,14 +155,13 @@ whole_text d from stop s part text mark =
 -- ---- what is written into a room
 
 pub chunk_plain : (n : ℕ) (xs : List ℕ) → prefix_len is_plain (take n xs) ≤ prefix_len is_plain xs
-chunk_plain zero xs = omega arith
-chunk_plain (suc n) [] = omega arith
 chunk_plain (suc n) (x ∷ xs) = more (is_plain x) (chunk_plain n xs)
   where
     more : (p : Bool) → prefix_len is_plain (take n xs) ≤ prefix_len is_plain xs
         → cond p (1 + prefix_len is_plain (take n xs)) 0 ≤ cond p (1 + prefix_len is_plain xs) 0
     more true less = omega arith
     more false less = omega arith
+chunk_plain _ _ = omega arith
 
 -- of a block that was written whole, its first bytes
 pub front_of_block : (room after d : List ℕ) (len at n count : ℕ) → len ≤ length room

@@ -115,28 +115,18 @@ short_is d i c within is =
 pub content-nil : (w : Within) → content w [] ≡ None
 unfolding content
 content-nil plain = refl
-content-nil after_backslash = refl
-content-nil after_u = refl
-content-nil (after_high h) = refl
+content-nil _ = refl
 
 pub short_after_u : (xs : List ℕ) → length xs < 4 → content after_u xs ≡ None
 unfolding content
-short_after_u [] h = refl
-short_after_u (a ∷ []) h = refl
-short_after_u (a ∷ b ∷ []) h = refl
-short_after_u (a ∷ b ∷ c ∷ []) h = refl
 short_after_u (a ∷ b ∷ c ∷ d ∷ xs) h = let no : ⊥ = omega arith in absurd no
+short_after_u _ h = refl
 
 pub short_after_high : (high : ℕ) (xs : List ℕ) → length xs < 6
     → content (after_high high) xs ≡ None
 unfolding content
-short_after_high high [] h = refl
-short_after_high high (s ∷ []) h = refl
-short_after_high high (s ∷ u ∷ []) h = refl
-short_after_high high (s ∷ u ∷ a ∷ []) h = refl
-short_after_high high (s ∷ u ∷ a ∷ b ∷ []) h = refl
-short_after_high high (s ∷ u ∷ a ∷ b ∷ c ∷ []) h = refl
 short_after_high high (s ∷ u ∷ a ∷ b ∷ c ∷ d ∷ xs) h = let no : ⊥ = omega arith in absurd no
+short_after_high high _ h = refl
 
 pub len_utf8-le : (c : ℕ) → len_utf8 c ≤ 4
 len_utf8-le c = grind arith

@@ -78,23 +78,17 @@ no_colon_operator : (a b c e l f : Bool) (ls : List Lexeme) → (a || b || c || 
     (cond b (token token_of.end_object)
     (cond c (token token_of.begin_array)
     (cond e (token token_of.end_array) (cond f comma colon)))) ∷ ls) ≡ false
-no_colon_operator true b c e l f ls h none = refl
-no_colon_operator false true c e l f ls h none = refl
-no_colon_operator false false true e l f ls h none = refl
-no_colon_operator false false false true l f ls h none = refl
 no_colon_operator false false false false true f ls h none = absurd (cc)
-no_colon_operator false false false false false true ls h none = refl
 no_colon_operator false false false false false false ls h none = absurd (cc)
+no_colon_operator _ _ _ _ _ _ ls h none = refl
 
 no_colon_class : (q b o s : Bool) (x : ℕ) (xs : List ℕ) (k : Mode → List Lexeme) → s ≡ false
     → (o ≡ true → begins_colon (operator_lexeme x ∷ k between) ≡ false)
     → begins_colon (lex_byte between (cond q quote
     (cond b backslash (cond o operator (cond s space other)))) x xs k) ≡ false
-no_colon_class true b o s x xs k spaced h = refl
-no_colon_class false true o s x xs k spaced h = refl
 no_colon_class false false true s x xs k spaced h = h refl
 no_colon_class false false false true x xs k spaced h = absurd (cc)
-no_colon_class false false false false x xs k spaced h = refl
+no_colon_class _ _ _ _ x xs k spaced h = refl
 
 no_colon : (t : List ℕ) → is_space (get_or t 0 0) ≡ false → (get_or t 0 0 == 58) ≡ false
     → begins_colon (lex between t) ≡ false
@@ -339,18 +333,9 @@ colon_passed d from at end same is after =
 -- a value doesn't begin with the bracket that closes an array
 no_end : (depth : ℕ) (ts : List Token) (j : json.Json) (r : List Token)
     → value depth ts ≡ Some (j, r) → after_end_array ts ≡ None
-no_end depth [] j r e = refl
-no_end depth (Token.begin_object ∷ ts) j r e = refl
-no_end depth (Token.end_object ∷ ts) j r e = refl
-no_end depth (Token.begin_array ∷ ts) j r e = refl
 no_end depth (Token.end_array ∷ ts) j r e =
     let none = sym (value_is depth (Token.end_array ∷ ts)) ∙ e in absurd (cc)
-no_end depth (Token.key s ∷ ts) j r e = refl
-no_end depth (Token.string s ∷ ts) j r e = refl
-no_end depth (Token.number s ∷ ts) j r e = refl
-no_end depth (Token.boolean b ∷ ts) j r e = refl
-no_end depth (Token.null ∷ ts) j r e = refl
-no_end depth (Token.bad ∷ ts) j r e = refl
+no_end depth _ j r e = refl
 
 pub record Taken (depth : ℕ) (ts r : List Token) : Type 0 where
   pub shorter : length r < length ts

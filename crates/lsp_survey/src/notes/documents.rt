@@ -16,9 +16,6 @@ use lsp_uris::{renews, reopens};
 
 /// Notes a message or a snapshot that breaks this rule, with what it says about a document, if it
 /// says anything.
-///
-/// # Errors
-/// `Memory` where memory was refused; nothing is then known of the notes.
 pub(crate) fn note_refused<S: TextStore>(
     notes: &mut Notes,
     docs: &Docs<S>,
@@ -44,9 +41,6 @@ pub(crate) fn note_refused<S: TextStore>(
 
 /// Notes a message that breaks this rule, and the URI of the document that it was to open or to
 /// change, if any.
-///
-/// # Errors
-/// `Memory` where memory was refused; nothing is then known of the notes.
 pub(crate) fn note_malformed(notes: &mut Notes, rule: u16, brings: Option<String>) -> Result<()>
     ensures { OnOk result (Leaves (Some rule) (option_map string_bytes brings) false None
         notes.old.map.entries notes.new.map.entries) }
@@ -62,9 +56,6 @@ pub(crate) fn note_malformed(notes: &mut Notes, rule: u16, brings: Option<String
 }
 
 /// Notes a message that is kept, with what it says about a document, if it says anything.
-///
-/// # Errors
-/// `Memory` where memory was refused; nothing is then known of the notes.
 #[inline(always)]
 pub(crate) fn note_kept(notes: &mut Notes, said: Option<Call<'_>>) -> Result<()>
     ensures { OnOk result (AreAfter (option_map call_view said.entry) notes.old.map.entries

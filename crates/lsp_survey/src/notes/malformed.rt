@@ -109,9 +109,6 @@ fn meant_by(alloc: Global, message: &Message) -> Result<Malformed>
 }
 
 /// What the message of a refused content was to do: reads it again, for what its params still say.
-///
-/// # Errors
-/// `Memory` where memory was refused.
 pub(crate) fn meant_again(alloc: Global, content: &[u8]) -> Result<Malformed>
     ensures { IfOk result (λ meant. (m : Option AMessage) × IsReading content.now m
         × IsMeant m meant) }

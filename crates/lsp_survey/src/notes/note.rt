@@ -75,9 +75,6 @@ impl Notes {
     }
 
     /// Whether what is said, if anything, is about a document that is lost.
-    ///
-    /// # Errors
-    /// `Memory` where memory was refused.
     pub(crate) fn is_lost(&self, said: Option<Call<'_>>) -> Result<bool>
         ensures { IfOk result (λ lost. lost
             ≡ is_noted_lost self.now.map.entries (option_map call_view said.entry)) }
@@ -97,9 +94,6 @@ impl Notes {
     }
 
     /// The document of this URI is lost; all others stay as they are.
-    ///
-    /// # Errors
-    /// `Memory` where memory was refused; nothing is then known of the notes.
     pub(crate) fn lose(&mut self, uri: &str) -> Result<()>
         ensures { OnOk result (Sets uri.now true self.old.map.entries self.new.map.entries) }
     {
@@ -113,9 +107,6 @@ impl Notes {
 
     /// Each document is lost of which the URI differs from this one in its spelling alone, and that
     /// of this URI.
-    ///
-    /// # Errors
-    /// `Memory` where memory was refused; nothing is then known of the notes.
     pub(crate) fn lose_alike(&mut self, uri: &str) -> Result<()>
         ensures { OnOk result (SetsAlike uri.now self.old.map.entries self.new.map.entries) }
     {
@@ -125,9 +116,6 @@ impl Notes {
     }
 
     /// The document of this URI is not lost; all others stay as they are.
-    ///
-    /// # Errors
-    /// `Memory` where memory was refused; nothing is then known of the notes.
     pub(crate) fn renew(&mut self, uri: &str) -> Result<()>
         ensures { OnOk result (Sets uri.now false self.old.map.entries self.new.map.entries) }
     {

@@ -47,9 +47,6 @@ impl Passed {
     }
 
     /// Notes that a message of this side breaks this rule.
-    ///
-    /// # Errors
-    /// `Memory` where memory was refused; nothing is then known of the requests.
     pub(crate) fn note(&mut self, side: Side, rule: u16, message: &Message) -> Result<()>
         ensures { OnOk result (Passes rule side (message_view message.now) self.old self.new) }
     {
@@ -64,9 +61,6 @@ impl Passed {
     }
 
     /// Notes the request of this side with this id, if there is one.
-    ///
-    /// # Errors
-    /// `Memory` where memory was refused; nothing is then known of the requests.
     pub(crate) fn note_asked(&mut self, side: Side, asked: Option<Id>) -> Result<()>
         ensures { OnOk result (SetsAny side (option_map id_view asked) self.old self.new) }
     {

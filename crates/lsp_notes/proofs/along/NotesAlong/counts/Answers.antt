@@ -1,8 +1,8 @@
 use Rattle.std.specs.Prelude.{length}
-use Rattle.std.proofs.Common.{◌∷◌, ◌∙◌, ap, sym}
+use Rattle.std.proofs.Common.{◌∷◌, [], ◌∙◌, ap, sym}
 use Rattle.std.proofs.lemmas.List.{length-map}
 use Rattle.lsp_verdict.specs.Heard.{heard_events}
-use Rattle.lsp_notes.specs.AllNotes.{counts, one, server_kinds}
+use Rattle.lsp_notes.specs.AllNotes.{one}
 use Rattle.lsp_notes.specs.Notes.{exit_notes, misuse_line, name_notes, old_name_notes}
 use Rattle.lsp_trail.specs.SessionNotes.{misused_view}
 use Rattle.lsp_notes.proofs.NotedSteps.{exit_there, name_there, noted_length, renamed_there}
@@ -31,7 +31,14 @@ returns c = λ before heard stands are.
     ∙ noted_length _ _ are.messages.refusals.refused_are in
     let spelled = c.len-5.ensures ∙ self.messages.spellings.named.ok.0
     ∙ noted_length _ _ are.messages.spellings.named_are in
-    let server = c.counts.ensures ∙ (λ i. counts (server_kinds (are.messages.server.late_edits_are i)
-    (are.messages.server.outside_are i) (are.messages.server.overlaps_are i) (are.messages.server.unsent_are i))) in
+    let edits = self.messages.server_edits in
+    let late = c.len-6.ensures ∙ edits.late_edits.ok.0
+    ∙ noted_length _ _ are.messages.server.late_edits_are in
+    let outside = c.len-7.ensures ∙ edits.outside.ok.0
+    ∙ noted_length _ _ are.messages.server.outside_are in
+    let overlaps = c.len-8.ensures ∙ edits.overlaps.ok.0
+    ∙ noted_length _ _ are.messages.server.overlaps_are in
+    let unsent = c.len-9.ensures ∙ edits.unsent.ok.0
+    ∙ noted_length _ _ are.messages.server.unsent_are in
     λ i. misuses i ∷ exit i ∷ name i ∷ renamed i ∷ past_ends i ∷ lengths i ∷ refused i
-    ∷ spelled i ∷ server i
+    ∷ spelled i ∷ late i ∷ outside i ∷ overlaps i ∷ unsent i ∷ []

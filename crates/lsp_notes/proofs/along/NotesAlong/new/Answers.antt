@@ -1,4 +1,4 @@
-use Rattle.std.proofs.Common.{◌∷◌, ap, refl}
+use Rattle.std.proofs.Common.{refl}
 use Rattle.lsp_notes.proofs.along.NotesAlong.new.Goals as goal
 
 pub returns : goal.returns
@@ -8,5 +8,5 @@ returns c = λ terms. record {
   broken = refl;
   behind = c.new-3.ensures terms;
   refused = refl;
-  told_are = ap (λ ns. 0 ∷ 0 ∷ 0 ∷ 0 ∷ 0 ∷ 0 ∷ 0 ∷ 0 ∷ ns) c.none.ensures;
+  told_are = refl;
 }
