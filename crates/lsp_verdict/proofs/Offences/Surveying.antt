@@ -17,7 +17,7 @@ use Rattle.lsp_log.specs.declared.fault.LogCode.{LogCode}
 use Rattle.lsp_verdict.specs.Complete.{completed, IsVerdictBy}
 use Rattle.lsp_verdict.specs.Event.{Event, message, fault, snapshot, sent_in}
 use Rattle.lsp_verdict.specs.Laws.{SurveyAgrees, SomeSurvey, OneSurvey}
-use Rattle.lsp_verdict.specs.Offences.{Noted, Offence, events_of, kept_of, IsReading, IsMalformed}
+use Rattle.lsp_verdict.specs.Offences.{Noted, Offence, events_of, IsReading, IsMalformed}
 use Rattle.lsp_verdict.specs.Offences.{IsNoted, IsNotedSession}
 use Rattle.lsp_verdict.specs.Outcome.{ending, IsVerdict, log_terms}
 use Rattle.lsp_verdict.specs.Placed.{Raw, content, broken, show, Placed, Reads, joined}
