@@ -84,9 +84,8 @@ bad_may (Some flaw) = bad_given flaw.0 flaw.1
 -- ---- the verdict
 
 rest_may : (events : List Event) (editor server : Bool) → MayBeGiven (rest_of events editor server)
-rest_may events true server = no_given _ _ _ _
-rest_may events false true = no_given _ _ _ _
 rest_may events false false = tt
+rest_may events _ _ = no_given _ _ _ _
 
 first_may : (terms : Terms) (before events : List Event)
     → MayBeGiven (first_from (no_at terms) before events)
@@ -111,8 +110,7 @@ pub completed_given : (events : List Event) (v : Verdict) → IsGiven v → IsGi
 completed_given events (yes s) given =
     else_given (lack_of events) (yes s)
     (mapped_given _ (λ rule. no_given _ _ _ _) (incomplete (sent_in events))) given
-completed_given events (no rule by number event) given = given
-completed_given events (bad_log number fault) given = given
+completed_given events _ given = given
 
 -- ---- what is listed
 
@@ -127,9 +125,8 @@ OffencesGiven (o ∷ os) = IsGiven o.no × OffencesGiven os
 rests_given : (events : List Event) (editor server : Bool)
     → AllGiven (rests_listed events editor server)
 rests_given events true true = (no_given _ _ _ _, (no_given _ _ _ _, tt))
-rests_given events true false = (no_given _ _ _ _, tt)
-rests_given events false true = (no_given _ _ _ _, tt)
 rests_given events false false = tt
+rests_given events _ _ = (no_given _ _ _ _, tt)
 
 lacks_given : (completeness : Completeness) (events kept : List Event)
     → AllGiven (lacks_listed completeness events kept)
