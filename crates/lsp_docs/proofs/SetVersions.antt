@@ -291,8 +291,7 @@ left terms uri calls (closes u) w e now other =
           rw p (unchanged (held terms uri calls)) in
           (sym rest ∙ now, p, refl)
     ]
-left terms uri calls _ w e now other =
-    (sym (unchanged (held terms uri calls)) ∙ now, refl, refl)
+left terms uri calls _ w e now other = (sym (unchanged (held terms uri calls)) ∙ now, refl, refl)
 
 -- what is held after the calls was set by one of them, and its opening has stood since
 pub set-before : (terms : Terms) (uri : Bytes) (calls more : List Call)

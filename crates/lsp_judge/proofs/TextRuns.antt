@@ -160,8 +160,7 @@ answer_is (text_is t) outcome text ends is =
     ∙ ap text_is (sym (chars_from_encodes t (string_bytes text) (IsUtf8-string_bytes text) (sym is)))
 answer_is (refused v) outcome text (given, ends, named) is =
     ap (λ (o : Outcome). given_as o (string_bytes text)) ends ∙ ap refused named
-answer_is _ outcome text ends is =
-    ap (λ (o : Outcome). given_as o (string_bytes text)) ends
+answer_is _ outcome text ends is = ap (λ (o : Outcome). given_as o (string_bytes text)) ends
 
 module _ (limits : Bounds) (start now old new : Told) (Answers : List ℕ → TextAnswer → Type 0) where
   pub text_found : (outcome : Outcome) (bytes : List ℕ) (given : code.TextAnswer)

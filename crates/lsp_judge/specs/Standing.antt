@@ -97,8 +97,7 @@ pub record State : Type 0 where
 
 -- nothing was given: no event of the records offends, and all were heard
 abbrev pub IsOpen : State → List Record → Type 0
-IsOpen s records =
-    AreHeard s.limits s.format s.streams s.messages s.documents s.counts records
+IsOpen s records = AreHeard s.limits s.format s.streams s.messages s.documents s.counts records
 
 -- an event of the records offends, and this is the No at the first
 abbrev pub HasOffence : Bounds → Format → List Record → Verdict → Type 0

@@ -70,8 +70,7 @@ found_rest ps offset f rest h k b r =
     record {
       utf8 = r.utf8;
       more = r.more ++ c;
-      begins =
-          cut.back ∙ ap (λ (x : List ℕ). x ++ c) r.begins ∙ append_assoc rest r.more c;
+      begins = cut.back ∙ ap (λ (x : List ℕ). x ++ c) r.begins ∙ append_assoc rest r.more c;
       some =
           λ some.
           ⊎_elim

@@ -51,8 +51,7 @@ least_of P (r ∷ rs) all rule h = by_test (λ more. least_of P rs all.1 rule mo
     by_test rest true is = subst P (same_rule r.0 rule is) all.0
     by_test rest false is = rest is
 
-value_below : (d : Data) (rule : ℕ) → broken_rule d ≡ Some rule
-    → rule ≡ rules.BAD_METHOD_PARAMS → ⊥
+value_below : (d : Data) (rule : ℕ) → broken_rule d ≡ Some rule → rule ≡ rules.BAD_METHOD_PARAMS → ⊥
 value_below d rule h =
     least_of (λ r. r ≡ rules.BAD_METHOD_PARAMS → ⊥)
     ((rules.MESSAGE_NOT_OBJECT, not (is_object d)) ∷ rules_on (parts_of d)) (

@@ -45,8 +45,7 @@ yes_given : (s : Summary) → CanHold s → IsGiven (yes s)
 yes_given s (held, is) = (verdicts.Yes held, ap yes is)
 
 -- a No at an event
-no_by_given : (before : List Event) (event : Event) (rule : ℕ)
-    → IsGiven (no_by before event rule)
+no_by_given : (before : List Event) (event : Event) (rule : ℕ) → IsGiven (no_by before event rule)
 no_by_given before event rule = no_given rule (whose event) _ _
 
 -- the No of a rule that is broken is answered

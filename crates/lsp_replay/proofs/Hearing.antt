@@ -53,10 +53,8 @@ unread_for side bytes terms events Memory is = tt
 pub silent : (raw : code.Raw)
     → ((side : Side) (bytes behind : _) → raw ≡ lent.Content side bytes behind → ⊥) → (event : Event)
     → Reads (raw_view raw) event → (sent : Sent) → event ≡ message sent → ⊥
-silent (lent.Content side bytes behind) not event reads sent is =
-    not side bytes behind refl
-silent _ not event reads sent is =
-    let same = sym reads ∙ is in absurd (cc same)
+silent (lent.Content side bytes behind) not event reads sent is = not side bytes behind refl
+silent _ not event reads sent is = let same = sym reads ∙ is in absurd (cc same)
 
 -- a snapshot leaves the messages
 module _ (messages : session.State) (events : List Event)
@@ -163,8 +161,7 @@ module _ (old : docs.State) (events : List Event) (h : docs.Stands old (calls ev
       named None refused = absurd refused
       named (Some call) refused = refused (calls events) h
   refused_as_call (content side bytes) Memory reads refuses lacks = tt
-  refused_as_call (broken side rule) Memory reads refuses lacks =
-      absurd (subst IsSound reads sound)
+  refused_as_call (broken side rule) Memory reads refuses lacks = absurd (subst IsSound reads sound)
   refused_as_call (show n uri t) Memory reads refuses lacks =
       let lacking = subst (MayLackFor old) (says ∙ ap (call_at events) reads) (lacks refl) in
       sym (lacking.1 (calls events) h)

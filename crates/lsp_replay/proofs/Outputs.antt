@@ -243,8 +243,7 @@ module _ (run : Run) (terms : Terms) (tail : Tail) where
           → (b : Bool) → run.stops terms before h ≡ b
           → (out : List ℕ) × SaysOn run terms tail before (h ∷ hs) out None
       by_stop own rest true is = (own.0, inl (is, own.1, tt))
-      by_stop own rest false is =
-          (own.0 ++ rest.0, inr (is, (own.0, rest.0, refl, own.1, rest.1)))
+      by_stop own rest false is = (own.0 ++ rest.0, inr (is, (own.0, rest.0, refl, own.1, rest.1)))
 
   -- and so it ends
   some_end : IsTotal run → (before hs : List Heard) (out : List ℕ)

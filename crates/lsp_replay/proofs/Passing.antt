@@ -382,5 +382,4 @@ module _ (Asked : Type 0) (run_of : Asked → Run) (asked : Asked)
 
       pub goes_wrong : (own : Asked) → own ≡ asked → (fault : RunFault) → TellsNext own (Err fault)
           → Passes run limits start last old end (Err fault)
-      goes_wrong own same fault tells =
-          passing_fault fault (steps_of own (Err fault) same tells)
+      goes_wrong own same fault tells = passing_fault fault (steps_of own (Err fault) same tells)

@@ -66,8 +66,7 @@ lacks_comparison request ended = request.compared && task_compared_nothing ended
 
 -- **the status of a request**: that of its task, but 1 for a Yes that lacks a comparison
 abbrev pub status_of_request : Request → Result TaskOutcome RunFault → ℕ
-status_of_request request ended =
-    if lacks_comparison request ended then 1 else status_of_task ended
+status_of_request request ended = if lacks_comparison request ended then 1 else status_of_task ended
 
 -- where the words ask for no run: 0 for help and the version, 4 out of memory, 64 where they don't
 -- parse

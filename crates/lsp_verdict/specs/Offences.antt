@@ -378,8 +378,7 @@ wants_text rule = is_within rules.DOCUMENT_NOT_OPEN rules.SAVED_TEXT_DIFFERS rul
 -- it speaks of a document that is lost, or of any after synchronisation was registered
 abbrev pub is_on_lost : Terms → List Noted → Option Call → Bool
 is_on_lost terms before None = false
-is_on_lost terms before (Some call) =
-    is_lost terms (uri_of call) before || is_unsynced terms before
+is_on_lost terms before (Some call) = is_lost terms (uri_of call) before || is_unsynced terms before
 
 -- **the offence of this event, by this rule, follows from an earlier one**
 abbrev pub follows : Terms → List Noted → Noted → ℕ → Bool

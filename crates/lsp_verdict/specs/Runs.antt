@@ -127,8 +127,7 @@ IsSilent io = io.sink_after ≡ io.sink_before
 -- the limit is read
 pub record CountsFaults {X : Type 0} (limits : Bounds) (io : Ports)
     (result : Result X RunFault) : Type 0 where
-  pub source_failures :
-      io.source_after.failures ≡ failures_read result io.source_before.failures
+  pub source_failures : io.source_after.failures ≡ failures_read result io.source_before.failures
   pub sink_failures : io.sink_after.failures ≡ failures_written result io.sink_before.failures
   pub limit : GaveAtMost (limits.log + 1) io.source_before io.source_after
 
