@@ -138,12 +138,8 @@ closed_cut limits sizes format before now after bytes held records left flaw wan
     }
   where
     has_code : {X : Type 0} (f : Option Flaw) → wants_bytes f ≡ true → code_of f true ≡ None → X
-    has_code None p q = absurd cc
     has_code (Some cut_short) p q = absurd cc
-    has_code (Some bad_line) p q = absurd cc
-    has_code (Some bad_number) p q = absurd cc
-    has_code (Some bad_end) p q = absurd cc
-    has_code (Some not_utf8) p q = absurd cc
+    has_code _ p q = absurd cc
 
 -- bytes are wanted, and the reader is at its end
 closed_at_end : (limits : Bounds) → IsInRange limits → (format : Format) (before now after : Told) (bytes held : List ℕ) (records : List log.Record) (left : ℕ) (flaw : Option Flaw) → wants_bytes flaw ≡ true → Reached limits format before now bytes held records left flaw → IsCutAt left now after false

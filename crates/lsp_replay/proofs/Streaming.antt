@@ -355,13 +355,12 @@ module _ (limits : Bounds) (records : List Record) (given : List Raw) where
       subst (IsDue side (decoder_of side s) (joined side records)) (none side s.turn) (h.sides side)
     where
       none : (side : Side) (t : Option PendingEvents) → due_of side t [] ≡ []
-      none side None = refl
       none side (Some (turn.Bytes by)) = by_test (same_side side by)
         where
           by_test : (b : Bool) → (let rs : List Raw = if b then [] else [] in rs) ≡ []
           by_test true = refl
           by_test false = refl
-      none side (Some turn.Snapshot) = refl
+      none side _ = refl
 
   joined_other : (side : Side) (bytes : List ℕ)
       → joined (other_side side) (records ++ chunk side bytes ∷ [])

@@ -246,10 +246,9 @@ open_found history m id h own =
       where
         go : (side by : Side) (found : Option (Ident × List ℕ))
             → (if same_side side by then found else None) ≡ Some r → by ≡ side
-        go Editor Editor found h = refl
-        go Server Server found h = refl
         go Editor Server found h = absurd (true≢false (sym (ap is_some h)))
         go Server Editor found h = absurd (true≢false (sym (ap is_some h)))
+        go _ _ found h = refl
 
     asked_message : (side : Side) (a : Sent) (r : Ident × List ℕ) → request_by side a ≡ Some r
         → request_of a.message ≡ Some r

@@ -172,6 +172,5 @@ own_count side (raw ∷ raws) (n ∷ notes) all =
         ≡ length (if c then raw ∷ filter (is_own side) raws else filter (is_own side) raws)
     by_test true true same rest = ap suc rest
     by_test false false same rest = rest
-    by_test true false same rest = absurd cc
-    by_test false true same rest = absurd cc
+    by_test _ _ same rest = absurd cc
 own_count side _ _ all = absurd all

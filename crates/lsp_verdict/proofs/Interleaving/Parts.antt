@@ -118,9 +118,8 @@ read_others es fs read same =
 
 read_one : (raw : Raw) (e : Event) → Reads raw e → IsRead e
 read_one (content side bytes) (message m) p = subst (λ s. act_at s m.message ≡ Some m.act) (sym p.by) p.means
-read_one (broken side rule) e p = subst IsRead (sym p) tt
-read_one (show n uri t) e p = subst IsRead (sym p) tt
 read_one (content side bytes) _ p = tt
+read_one _ e p = subst IsRead (sym p) tt
 
 read_all : (raws : List Raw) (es : List Event) → AllZip Reads raws es → All IsRead es
 read_all [] [] p = All-nil IsRead

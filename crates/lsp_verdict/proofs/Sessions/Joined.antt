@@ -123,8 +123,7 @@ reads_own side (raw ∷ raws) (e ∷ events) reads = by_test (is_own side raw) (
         → AllZip Reads (if b then raw ∷ filter (is_own side) raws else filter (is_own side) raws) (if c then e ∷ filter (is_of side) events else filter (is_of side) events)
     by_test true true same rest = (reads.0, rest)
     by_test false false same rest = rest
-    by_test true false same rest = absurd cc
-    by_test false true same rest = absurd cc
+    by_test _ _ same rest = absurd cc
 reads_own side _ _ reads = absurd reads
 
 -- those of a side's stream
