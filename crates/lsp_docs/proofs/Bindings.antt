@@ -65,8 +65,7 @@ record StandsAt (uri : Bytes) (calls : List Call) (i : ℕ) : Type 0 where
 
 opens_still : (a b : Bool) → (a && not b) ≡ true → (a ≡ true) × (b ≡ false)
 opens_still true false h = (refl, refl)
-opens_still true true h = absurd (true≢false (sym h))
-opens_still false b h = absurd (true≢false (sym h))
+opens_still _ _ h = absurd (true≢false (sym h))
 
 standing-at : (uri : Bytes) (calls : List Call) (i : ℕ) → standing uri calls ≡ Some i
     → StandsAt uri calls i
@@ -165,8 +164,6 @@ none-opens uri (c ∷ m) rest k e n =
 -- a close of what is not open is refused
 not_closing : (terms : Terms) (uri : Bytes) (calls : List Call) (c : Call)
     → held terms uri calls ≡ None → call_rule terms calls c ≡ None → is_close uri c ≡ false
-not_closing terms uri calls (opens u n t) none e = refl
-not_closing terms uri calls (changes enc k u n cs) none e = refl
 not_closing terms uri calls (closes u) none e =
     elim (cases_Bool (bytes_eq uri u)) [
       | inl p ↦ absurd (let rule : ℕ = 602 in none-some rule
@@ -174,8 +171,7 @@ not_closing terms uri calls (closes u) none e =
           (ap (λ x. held terms x calls) (sym (uri_is uri u p)) ∙ none)))
       | inr p ↦ p
     ]
-not_closing terms uri calls (saves u t) none e = refl
-not_closing terms uri calls (shows u n t) none e = refl
+not_closing terms uri calls _ none e = refl
 
 none-closes : (terms : Terms) (uri : Bytes) (calls m : List Call) → AreAcceptedFrom terms calls m
     → held terms uri calls ≡ None → list_any (λ c. is_some (opening uri c)) m ≡ false
@@ -194,11 +190,8 @@ none-closes terms uri calls (c ∷ m) h none opened =
 -- ---- between a snapshot and a prefix of one opening no close stands
 
 opening_closes : (uri : Bytes) (c : Call) → is_some (opening uri c) ≡ true → is_close uri c ≡ false
-opening_closes uri (opens u n t) h = refl
-opening_closes uri (changes enc k u n cs) h = refl
 opening_closes uri (closes u) h = absurd (true≢false (sym h))
-opening_closes uri (saves u t) h = refl
-opening_closes uri (shows u n t) h = refl
+opening_closes uri _ h = refl
 
 pub any_behind : (uri : Bytes) (xs ys : List Call) → list_any (is_close uri) (xs ++ ys) ≡ false
     → (list_any (is_close uri) xs ≡ false) × (list_any (is_close uri) ys ≡ false)

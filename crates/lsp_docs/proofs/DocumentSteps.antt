@@ -39,10 +39,7 @@ held_entry-push : (terms : Terms) (c : Call) (later : List Call) (m : Call)
 held_entry-push terms (opens u n t) later m =
     ap (as_held u) (held_since-snoc terms u later m (Some (versioned n t)))
     ∙ as_since terms u (held_since terms u later (Some (versioned n t))) m
-held_entry-push terms (changes enc k u n cs) later m = refl
-held_entry-push terms (closes u) later m = refl
-held_entry-push terms (saves u t) later m = refl
-held_entry-push terms (shows u n t) later m = refl
+held_entry-push terms _ later m = refl
 
 abbrev pub after_call : Terms → Call → List Held → List Held
 after_call terms m hs = map (revised_held terms m) (filter (stays m) hs)

@@ -30,9 +30,8 @@ since_one : (terms : Terms) (uri : Bytes) (v : Version) (after : List Call) (c :
     → (if closed || (close || false) then None else Some (revised_by terms uri v (after ++ c ∷ [])))
     ≡ since terms uri (if closed then None else Some (revised_by terms uri v after)) close c
 since_one terms uri v after c true true = refl
-since_one terms uri v after c true false = refl
-since_one terms uri v after c false true = refl
 since_one terms uri v after c false false = ap (λ w. Some w) (revised_by-snoc terms uri v after c)
+since_one terms uri v after c _ _ = refl
 
 pub held_since-snoc : (terms : Terms) (uri : Bytes) (after : List Call) (c : Call)
     (o : Option Version) → held_since terms uri (after ++ c ∷ []) o
@@ -70,10 +69,8 @@ no_close terms uri (opens u n t) = same (bytes_eq uri u) n t
         ≡ option_or None (if b then Some (versioned n t) else None)
     same true n t = refl
     same false n t = refl
-no_close terms uri (changes enc kind u n cs) = refl
 no_close terms uri (closes u) = either (bytes_eq uri u) None
-no_close terms uri (saves u t) = refl
-no_close terms uri (shows u n t) = refl
+no_close terms uri _ = refl
 
 -- **One more call** opens, changes or closes
 pub held-snoc : (terms : Terms) (uri : Bytes) (cs : List Call) (c : Call)

@@ -34,37 +34,27 @@ next_past uri ps h c = if is_close uri c then [] else
     ps ++ (if is_change uri c then option_to_list h else [])
 
 pub close_changes : (uri : Bytes) (c : Call) → is_close uri c ≡ true → is_change uri c ≡ false
-close_changes uri (opens u n t) h = refl
 close_changes uri (changes enc k u n cs) h = absurd (true≢false (sym h))
-close_changes uri (closes u) h = refl
-close_changes uri (saves u t) h = refl
-close_changes uri (shows u n t) h = refl
+close_changes uri _ h = refl
 
 change_closes : (uri : Bytes) (c : Call) → is_change uri c ≡ true → is_close uri c ≡ false
-change_closes uri (opens u n t) h = refl
-change_closes uri (changes enc k u n cs) h = refl
 change_closes uri (closes u) h = absurd (true≢false (sym h))
-change_closes uri (saves u t) h = refl
-change_closes uri (shows u n t) h = refl
+change_closes uri _ h = refl
 
 entry_last : (cl ch : Bool) (xs : List Version) → (cl ≡ true → ch ≡ false)
     → (if ch && not false then xs else []) ++ [] ≡ (if cl then [] else (if ch then xs else []))
 entry_last true true xs h = absurd (true≢false (h refl))
-entry_last true false xs h = refl
 entry_last false true xs h = append-nil xs
-entry_last false false xs h = refl
+entry_last _ false xs h = refl
 
 entry_more : (ch l cl : Bool) (xs ys zs : List Version)
     → (if ch && not (l || (cl || false)) then xs else []) ++ (if cl then [] else ys ++ zs)
     ≡ (if cl then [] else ((if ch && not l then xs else []) ++ ys) ++ zs)
 entry_more true true true xs ys zs = refl
-entry_more true true false xs ys zs = refl
-entry_more true false true xs ys zs = refl
 entry_more true false false xs ys zs = sym (append_assoc xs ys zs)
 entry_more false true true xs ys zs = refl
-entry_more false true false xs ys zs = refl
 entry_more false false true xs ys zs = refl
-entry_more false false false xs ys zs = refl
+entry_more _ _ _ xs ys zs = refl
 
 past_in-snoc : (terms : Terms) (uri : Bytes) (before after : List Call) (c : Call)
     → past_in terms uri before (after ++ c ∷ [])
@@ -195,8 +185,7 @@ module _ (terms : Terms) (uri : Bytes) where
         | inl p ↦ rw p refl
         | inr p ↦ rw p (left_rises (past terms uri calls) (held terms uri calls) so)
       ]
-  step_rises calls (saves u t) e so = left_rises (past terms uri calls) (held terms uri calls) so
-  step_rises calls (shows u n t) e so = left_rises (past terms uri calls) (held terms uri calls) so
+  step_rises calls _ e so = left_rises (past terms uri calls) (held terms uri calls) so
 
   rises-on : (calls more : List Call) → AreAcceptedFrom terms calls more
       → all_rise (past terms uri calls) (held terms uri calls) ≡ true

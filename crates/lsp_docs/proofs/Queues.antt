@@ -96,13 +96,11 @@ module _ {D : Type 0} (versions : D → List Version) where
 
     pub queue_of-there : (es : List (String Global × D)) (d : D) → lookup is_key es ≡ Some d
         → queue_of uri (map queued es) ≡ versions d
-    queue_of-there es d h =
-        queue_of-found uri es ∙ ap (λ o. unwrap_or (option_map versions o) []) h
+    queue_of-there es d h = queue_of-found uri es ∙ ap (λ o. unwrap_or (option_map versions o) []) h
 
     pub queue_of-absent : (es : List (String Global × D)) → lookup is_key es ≡ None
         → queue_of uri (map queued es) ≡ []
-    queue_of-absent es h =
-        queue_of-found uri es ∙ ap (λ o. unwrap_or (option_map versions o) []) h
+    queue_of-absent es h = queue_of-found uri es ∙ ap (λ o. unwrap_or (option_map versions o) []) h
 
     pub keep_in-there : (p : Version → Bool) (d w : D) → versions w ≡ filter p (versions d)
         → (es : List (String Global × D)) → lookup is_key es ≡ Some d

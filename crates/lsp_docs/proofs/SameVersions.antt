@@ -175,6 +175,4 @@ module _ (vs ws : List Version) (h : SameOrder vs ws) where
         Some 607,
       ) ∷ (true, r) ∷ [])) (version-same terms.line_ends (versioned n t))
   rule-same terms o ks (changes enc k u n cs) = change-same terms enc k n cs o
-  rule-same terms o ks (closes u) = refl
-  rule-same terms o ks (saves u t) = refl
-  rule-same terms o ks (shows u n t) = refl
+  rule-same terms o ks _ = refl

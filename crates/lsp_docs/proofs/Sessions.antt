@@ -74,8 +74,7 @@ abbrev part : ℕ → ℕ → ℕ → ℕ → Text → Edit
 part l c m d t = record {
   span = Some (record {
     first = record { line = l; column = c };
-    second =
-        record { line = m; column = d };
+    second = record { line = m; column = d };
   });
   range_length = None;
   text = t;

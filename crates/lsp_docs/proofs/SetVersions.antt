@@ -26,10 +26,7 @@ use Rattle.lsp_docs.proofs.Bindings.{mapped}
 
 pub close_opens : (uri : Bytes) (c : Call) → is_close uri c ≡ true → is_some (opening uri c) ≡ false
 close_opens uri (opens u n t) h = absurd (true≢false (sym h))
-close_opens uri (changes enc k u n cs) h = refl
-close_opens uri (closes u) h = refl
-close_opens uri (saves u t) h = refl
-close_opens uri (shows u n t) h = refl
+close_opens uri _ h = refl
 
 map_or : (f : ℕ → ℕ) (s x : Option ℕ)
     → option_map f (option_or s x) ≡ option_or (option_map f s) (option_map f x)
@@ -42,23 +39,19 @@ some_if o n = if o then Some n else None
 one : (o cl : Bool) → (cl ≡ true → o ≡ false)
     → some_if (o && not false) 0 ≡ (if cl then None else some_if o 0)
 one true true h = absurd (true≢false (h refl))
-one true false h = refl
 one false true h = refl
-one false false h = refl
+one _ _ h = refl
 
 more : (o l cl : Bool) (s x : Option ℕ)
     → (if o && not (l || (cl || false)) then Some 0 else option_map (λ i. i + 1)
     (if cl then None else option_or s x))
     ≡ (if cl then None else option_or (if o && not l then Some 0 else option_map (λ i. i + 1) s)
     (option_map (λ i. i + 1) x))
-more true true true s x = refl
 more true true false s x = map_or (λ i. i + 1) s x
 more true false true s x = refl
-more true false false s x = refl
-more false true true s x = refl
-more false false true s x = refl
 more false true false s x = map_or (λ i. i + 1) s x
 more false false false s x = map_or (λ i. i + 1) s x
+more _ _ _ s x = refl
 
 here_more : (b : Bool) (n m : ℕ) → n + 1 ≡ m
     → option_map (λ i. i + 1) (if b then Some n else None) ≡ (if b then Some m else None)
@@ -240,9 +233,7 @@ set-held terms uri n calls (changes enc k u m cs) e h =
           ∙ (ap (λ x. next_held terms uri x (changes enc k u m cs)) here ∙ changed);
       number = int_is m n both.1;
     }
-set-held terms uri n calls (closes u) e h = absurd (true≢false (sym h))
-set-held terms uri n calls (saves u t) e h = absurd (true≢false (sym h))
-set-held terms uri n calls (shows u m t) e h = absurd (true≢false (sym h))
+set-held terms uri n calls _ e h = absurd (true≢false (sym h))
 
 plain : (s : Option ℕ) → option_or s None ≡ s
 plain None = refl
@@ -300,10 +291,7 @@ left terms uri calls (closes u) w e now other =
           rw p (unchanged (held terms uri calls)) in
           (sym rest ∙ now, p, refl)
     ]
-left terms uri calls (saves u t) w e now other =
-    (sym (unchanged (held terms uri calls)) ∙ now, refl, refl)
-left terms uri calls (shows u n t) w e now other =
-    (sym (unchanged (held terms uri calls)) ∙ now, refl, refl)
+left terms uri calls _ w e now other = (sym (unchanged (held terms uri calls)) ∙ now, refl, refl)
 
 -- what is held after the calls was set by one of them, and its opening has stood since
 pub set-before : (terms : Terms) (uri : Bytes) (calls more : List Call)

@@ -82,10 +82,9 @@ holds-number n None h = absurd (true≢false (sym h))
 holds-number n (Some v) h = (v, refl, int_is v.number n h)
 
 or_false_parts : (f x : Bool) → (f || x) ≡ false → (f ≡ true) ⊎ (x ≡ true) → ⊥
-or_false_parts true x h e = true≢false h
-or_false_parts false true h e = true≢false h
 or_false_parts false false h (inl e) = true≢false (sym e)
 or_false_parts false false h (inr e) = true≢false (sym e)
+or_false_parts _ _ h e = true≢false h
 
 module _ (terms : Terms) (front back : List Call) (uri : Bytes) (n : ℤ) (t : Text)
     (h : AreAccepted terms (front ++ shows uri n t ∷ back)) where

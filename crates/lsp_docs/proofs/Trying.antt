@@ -23,9 +23,8 @@ there_within (c ∷ cs) (suc n) edit h = omega (arith, there_within cs n edit h)
 -- the edit of a lone change
 pub one_edit : (cs : List Change) (c : Change) → length cs ≡ 1 → c ≡ get_or cs 0 c
     → edits_of cs ≡ edit_of c ∷ []
-one_edit [] c one is = absurd (omega (arith, one))
 one_edit (x ∷ []) c one is = ap (λ (y : Change). edit_of y ∷ []) (sym is)
-one_edit (x ∷ y ∷ cs) c one is = absurd (omega (arith, one))
+one_edit _ c one is = absurd (omega (arith, one))
 
 -- those before the one that fails
 pub tried_before : (limit : ℕ) (enc : Encoding) (t u : Text) (cs : List Edit) (failed : ChangeFault)

@@ -57,16 +57,11 @@ ends_still uri u m n h =
 set_ends : (uri : Bytes) (n : ℤ) (c : Call) → sets uri n c ≡ true → still_at c uri n ≡ false
 set_ends uri n (opens u m t) h = ends_still uri u m n h
 set_ends uri n (changes enc k u m cs) h = ends_still uri u m n h
-set_ends uri n (closes u) h = absurd (true≢false (sym h))
-set_ends uri n (saves u t) h = absurd (true≢false (sym h))
-set_ends uri n (shows u m t) h = absurd (true≢false (sym h))
+set_ends uri n _ h = absurd (true≢false (sym h))
 
 pub set_opens : (uri : Bytes) (n : ℤ) (c : Call) → sets uri n c ≡ true → is_close uri c ≡ false
-set_opens uri n (opens u m t) h = refl
-set_opens uri n (changes enc k u m cs) h = refl
 set_opens uri n (closes u) h = absurd (true≢false (sym h))
-set_opens uri n (saves u t) h = refl
-set_opens uri n (shows u m t) h = refl
+set_opens uri n _ h = refl
 
 first_of_both : (x cl : Bool) → cl ≡ false → (x && not cl) ≡ false → x ≡ false
 first_of_both true cl p h = absurd (true≢false (sym (ap (λ b. true && not b) p) ∙ h))
@@ -147,9 +142,7 @@ module _ (terms : Terms) (uri : Bytes) (n : ℤ) where
       ap (λ x. is_ahead n (held terms x calls)) (uri_is uri u both.0)
       ∙ (ap (is_ahead n) parts.is
       ∙ (ap (int_lt parts.old.number) (sym (int_is m n both.1)) ∙ parts.rises))
-  sets-ahead calls (closes u) e h = absurd (true≢false (sym h))
-  sets-ahead calls (saves u t) e h = absurd (true≢false (sym h))
-  sets-ahead calls (shows u m t) e h = absurd (true≢false (sym h))
+  sets-ahead calls _ e h = absurd (true≢false (sym h))
 
 -- ---- one more call, for one snapshot
 
@@ -157,28 +150,18 @@ entry_lem : (f x a cl y : Bool) (s : Shown) (p : Shown → Bool) → p s ≡ y �
     → (cl ≡ false → (f || x) ≡ true → a ≡ false)
     → (if f || (x || (not cl && y)) then 0 else 1) + length
     (filter p (if a && not cl then s ∷ [] else [])) ≡ (if f || x then 0 else 1)
-entry_lem true x true true y s p e up down = refl
 entry_lem true x true false y s p e up down = absurd (true≢false (down refl refl))
-entry_lem true x false cl y s p e up down = refl
-entry_lem false true true true y s p e up down = refl
 entry_lem false true true false y s p e up down = absurd (true≢false (down refl refl))
-entry_lem false true false cl y s p e up down = refl
-entry_lem false false true true y s p e up down = refl
 entry_lem false false true false true s p e up down = rw e refl
 entry_lem false false true false false s p e up down = rw e refl
-entry_lem false false false true y s p e up down = refl
 entry_lem false false false false true s p e up down = absurd (true≢false (sym (up refl)))
-entry_lem false false false false false s p e up down = refl
+entry_lem _ _ _ _ _ s p e up down = refl
 
 entry-push : (terms : Terms) (before after : List Call) (d c : Call) → AreAccepted terms before
     → AreAcceptedFrom terms before (d ∷ after) → call_rule terms (before ++ d ∷ after) c ≡ None
     → unmatched_entry terms before d (after ++ c ∷ []) + length
     (filter (meets c) (shown_entry terms (before ++ d ∷ after) d after))
     ≡ unmatched_entry terms before d after
-entry-push terms before after (opens u n t) c done h e = refl
-entry-push terms before after (changes enc k u n cs) c done h e = refl
-entry-push terms before after (closes u) c done h e = refl
-entry-push terms before after (saves u t) c done h e = refl
 entry-push terms before after (shows u n t) c done h e =
     let all = before ++ shows u n t ∷ after in
     let s : Shown = record { uri = u; version = versioned n t } in
@@ -189,6 +172,7 @@ entry-push terms before after (shows u n t) c done h e =
     (list_any (is_close u) after) (sets u n c) s (meets c) refl
     (λ y. sets-ahead terms u n all c e y)
     (λ open_still is. compared-reached terms u n before after t done h open_still is)
+entry-push terms before after _ c done h e = refl
 
 unmatched_in-push : (terms : Terms) (before after : List Call) (c : Call) → AreAccepted terms before
     → AreAcceptedFrom terms before after → call_rule terms (before ++ after) c ≡ None
@@ -244,8 +228,7 @@ fate (opens u m t) s = fate_of u s.uri m s.version.number
 fate (changes enc k u m cs) s = fate_of u s.uri m s.version.number
 fate (closes u) s = elim (cases_Bool (bytes_eq u s.uri))
     [ inl p ↦ rw p (is_missed refl refl refl) | inr p ↦ rw p (goes_on refl refl refl) ]
-fate (saves u t) s = goes_on refl refl refl
-fate (shows u m t) s = goes_on refl refl refl
+fate _ s = goes_on refl refl refl
 
 thirds : (c : Call) (ws : List Shown)
     → length (filter (still c) ws) + length (filter (ends_waiting c) ws) + length
@@ -265,17 +248,12 @@ counted : (f a : Bool) (s : Shown) → (f ≡ true → a ≡ false)
     → length (if a && true then s ∷ [] else []) + (if not a && not f then 1 else 0)
     ≡ (if f || false then 0 else 1)
 counted true true s h = absurd (true≢false (h refl))
-counted true false s h = refl
 counted false true s h = refl
-counted false false s h = refl
+counted _ _ s h = refl
 
 new-entry : (terms : Terms) (calls : List Call) (c : Call) → AreAccepted terms calls
     → length (shown_entry terms (calls ++ c ∷ []) c []) + missed_at terms calls c
     ≡ unmatched_entry terms calls c []
-new-entry terms calls (opens u n t) h = refl
-new-entry terms calls (changes enc k u n cs) h = refl
-new-entry terms calls (closes u) h = refl
-new-entry terms calls (saves u t) h = refl
 new-entry terms calls (shows u n t) h =
     let s : Shown = record { uri = u; version = versioned n t } in
     let c = shows u n t in
@@ -283,6 +261,7 @@ new-entry terms calls (shows u n t) h =
     (held-shown terms calls u n t)
     ∙ counted (has_number n (kept terms u calls) (held terms u calls))
     (is_ahead n (held terms u calls)) s (λ p. reached-number terms u calls n h p)
+new-entry terms calls _ h = refl
 
 split-push : (terms : Terms) (calls : List Call) (c : Call) → AreAccepted terms calls
     → call_rule terms calls c ≡ None

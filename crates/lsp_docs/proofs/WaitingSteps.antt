@@ -29,8 +29,7 @@ abbrev pub still_at : Call → Bytes → ℤ → Bool
 still_at (opens u m t) uri n = not (bytes_eq u uri) || int_lt m n
 still_at (changes enc k u m cs) uri n = not (bytes_eq u uri) || int_lt m n
 still_at (closes u) uri n = not (bytes_eq u uri)
-still_at (saves u t) uri n = true
-still_at (shows u m t) uri n = true
+still_at _ uri n = true
 
 abbrev pub still : Call → Shown → Bool
 still c s = still_at c s.uri s.version.number
@@ -149,14 +148,11 @@ shown_entry-push : (terms : Terms) (calls after : List Call) (c d : Call)
     → call_rule terms calls c ≡ None
     → shown_entry terms (calls ++ c ∷ []) d (after ++ c ∷ [])
     ≡ filter (still c) (shown_entry terms calls d after)
-shown_entry-push terms calls after c (opens u n t) e = refl
-shown_entry-push terms calls after c (changes enc k u n cs) e = refl
-shown_entry-push terms calls after c (closes u) e = refl
-shown_entry-push terms calls after c (saves u t) e = refl
 shown_entry-push terms calls after c (shows u n t) e =
     let x : Shown = record { uri = u; version = versioned n t } in
     ap (λ b. if b then x ∷ [] else []) (waits-push terms u n calls after c e)
     ∙ entry_is (waits terms calls u n after) x (still c)
+shown_entry-push terms calls after c _ e = refl
 
 waiting_in-push : (terms : Terms) (calls after : List Call) (c : Call)
     → call_rule terms calls c ≡ None

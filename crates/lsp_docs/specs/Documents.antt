@@ -27,8 +27,7 @@ kept_of One = 0
 kept_of Two = 16
 
 abbrev pub terms_of : Bounds → Format → Terms
-terms_of b format =
-    record { limit = b.document; kept = kept_of format; line_ends = b.line_ends }
+terms_of b format = record { limit = b.document; kept = kept_of format; line_ends = b.line_ends }
 
 -- ---- what is held of each document, read off the calls that were made
 

@@ -37,8 +37,7 @@ took_found f = if is_none f.past_end && is_none f.range_length then Done else Ch
 
 -- what a call says, where this is held of its URI and these versions are kept
 abbrev pub took_with : Terms → Option Version → List Version → Call → Took
-took_with terms h kept (changes enc kind uri number cs) =
-    took_found (found_on terms.limit enc h cs)
+took_with terms h kept (changes enc kind uri number cs) = took_found (found_on terms.limit enc h cs)
 took_with terms h kept (shows uri number t) = Shown (answer_of number kept h)
 took_with terms h kept _ = Done
 
@@ -57,6 +56,5 @@ abbrev pub MayLackMemory : State → Call → Type 0
 MayLackMemory s (opens uri number t) = Allows s (opens uri number t)
 MayLackMemory s (changes enc kind uri number cs) =
     (calls : List Call) → Stands s calls → early_rule kind number cs (held s.terms uri calls) ≡ None
-MayLackMemory s (shows uri number t) =
-    Allows s (shows uri number t) × IsAnswer s uri number Waits
+MayLackMemory s (shows uri number t) = Allows s (shows uri number t) × IsAnswer s uri number Waits
 MayLackMemory s _ = ⊥

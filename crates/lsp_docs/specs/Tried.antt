@@ -28,8 +28,7 @@ pub record Made : Type 0 where
 
 -- what was tried, by what these stores hold
 abbrev pub tried_in : {S : Type 0} → (S → Text) → Option (code.Tried S) → Option Made
-tried_in content tried =
-    option_map (λ t. record { text = content t.store; count = t.count }) tried
+tried_in content tried = option_map (λ t. record { text = content t.store; count = t.count }) tried
 
 -- without a copy none is made
 abbrev pub made_of : Text → Option Made → Made
@@ -37,8 +36,7 @@ made_of t tried = unwrap_or tried (record { text = t; count = 0 })
 
 -- **as many of the changes of this text are made as can be**
 abbrev pub AreTried : ℕ → Encoding → Text → List Edit → Option Made → Type 0
-AreTried limit enc t cs tried =
-    IsMade limit enc t cs (made_of t tried).count (made_of t tried).text
+AreTried limit enc t cs tried = IsMade limit enc t cs (made_of t tried).count (made_of t tried).text
 
 -- the same of what is held, if anything is
 abbrev pub AreTriedOn : ℕ → Encoding → Option Version → List Edit → Option Made → Type 0

@@ -18,8 +18,7 @@ use Rattle.lsp_session.specs.Sent.{same_side}
 use Rattle.lsp_log.specs.declared.fault.LogCode.{LogCode}
 use Rattle.lsp_log.specs.Log.{Record, chunk, shown, first_line, spelling, IsLog}
 use Rattle.lsp_verdict.specs.declared.outcome.Outcome.{Outcome}
-use Rattle.lsp_verdict.specs.declared.outcome.Outcome.TheVariants.{Done, Judged, Stream, NoDocument}
-use Rattle.lsp_verdict.specs.declared.outcome.Outcome.TheVariants.{NoDifference, TooFew, Unlike}
+use Rattle.lsp_verdict.specs.declared.outcome.Outcome.TheVariants.{Done, Judged}
 use Rattle.lsp_verdict.specs.declared.outcome.RunFault.{RunFault}
 use Rattle.lsp_verdict.specs.Given.{verdict_view, as_given, AreCounts}
 use Rattle.lsp_verdict.specs.LookBack.{first_of}
@@ -71,9 +70,8 @@ no_next rule side before =
     no rule (who_of side) (length (filter (is_of side) before) + 1) (length before + 1)
 
 abbrev pub no_at : List Raw → Raw → Option Verdict
-no_at before (content side bytes) = None
 no_at before (broken side rule) = Some (no_next rule side before)
-no_at before (show number uri text) = None
+no_at before _ = None
 
 -- No at the first fault of the frames
 abbrev pub first_broken : List Raw → Option Verdict
@@ -114,11 +112,7 @@ pub record IsNormal (limits : Bounds) (log out : List ℕ) (fault : Option Verdi
 abbrev pub Carries : Outcome → Option Verdict → Type 0
 Carries Done fault = fault ≡ None
 Carries (Judged v) fault = fault ≡ Some (verdict_view v)
-Carries (Stream frame fault) _ = ⊥
-Carries NoDocument fault = ⊥
-Carries TooFew fault = ⊥
-Carries NoDifference fault = ⊥
-Carries Unlike fault = ⊥
+Carries _ fault = ⊥
 
 -- this is the normal form of the log, and the outcome carries the fault that ends it, if any
 abbrev pub EndsNormal : Bounds → List ℕ → List ℕ → Outcome → Type 0

@@ -14,8 +14,7 @@ use Rattle.lsp_rpc.specs.Words.{words_of}
 use Rattle.lsp_verdict.specs.declared.outcome.Mode.{Mode}
 use Rattle.lsp_verdict.specs.declared.outcome.Mode.TheVariants.{Lengths, Canonical, Kinds}
 use Rattle.lsp_verdict.specs.declared.outcome.Outcome.{Outcome}
-use Rattle.lsp_verdict.specs.declared.outcome.Outcome.TheVariants.{Done, Stream, Judged, NoDocument}
-use Rattle.lsp_verdict.specs.declared.outcome.Outcome.TheVariants.{NoDifference, TooFew, Unlike}
+use Rattle.lsp_verdict.specs.declared.outcome.Outcome.TheVariants.{Done, Stream}
 use Rattle.lsp_verdict.specs.declared.outcome.StreamFault.{StreamFault}
 use Rattle.lsp_verdict.specs.declared.outcome.StreamFault.TheVariants.{Rule, TooLong}
 use Rattle.lsp_verdict.specs.Runs.{Ports, ports, OfRead, sink_failures_after}
@@ -47,9 +46,8 @@ IsPart Kinds frame content part =
 
 -- the mode has no part for the content, which breaks this rule
 abbrev pub Refuses : Mode → List ℕ → ℕ → Type 0
-Refuses Lengths content rule = ⊥
-Refuses Canonical content rule = ⊥
 Refuses Kinds content rule = BreaksRule content rule
+Refuses _ content rule = ⊥
 
 -- a fault has the number of the frame after those before it
 abbrev pub outcome_at : ℕ → Option StreamFault → Outcome
@@ -91,12 +89,7 @@ abbrev pub closing : Mode → Outcome → List ℕ
 closing mode Done = []
 closing Lengths (Stream frame fault) = stream_report frame fault
 closing Kinds (Stream frame fault) = stream_report frame fault
-closing Canonical (Stream frame fault) = []
-closing mode (Judged v) = []
-closing mode NoDocument = []
-closing mode TooFew = []
-closing mode NoDifference = []
-closing mode Unlike = []
+closing _ _ = []
 
 -- all that is due for a stream, and how it ends
 abbrev pub IsRun : Bounds → Mode → List ℕ → List ℕ → Outcome → Type 0

@@ -17,14 +17,12 @@ module _ (P : ℕ → Type 0) (each : AllByRecursion P (101 ∷ 102 ∷ 103 ∷ 
   number_rule true true k rule e = absurd (cc e)
 
   length_rule : (limits : Bounds) (values : List (List ℕ)) (rule : ℕ) → content_length limits values ≡ err_of rule → P rule
-  length_rule limits [] rule e = subst P (cc e) each.1.1.0
   length_rule limits (v ∷ []) rule e = number_rule (is_number v) (nat_le (digits_value 10 v) limits.content) (digits_value 10 v) rule e
-  length_rule limits (v ∷ w ∷ vs) rule e = subst P (cc e) each.1.1.0
+  length_rule limits _ rule e = subst P (cc e) each.1.1.0
 
   charset_rule : (fits : Bool) (said : Result ℕ ℕ) (rule : ℕ) → (said ≡ err_of rule → P rule) → length_and_charset fits said ≡ err_of rule → P rule
-  charset_rule true said rule is e = is e
   charset_rule false (Ok n) rule is e = subst P (cc e) each.1.1.1.1.1.0
-  charset_rule false (Err r) rule is e = is e
+  charset_rule _ _ rule is e = is e
 
   -- the fault of a header part is 102 to 106
   says_rule : (limits : Bounds) (header : List ℕ) (rule : ℕ) → Says limits header (Err rule) → P rule

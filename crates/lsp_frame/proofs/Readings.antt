@@ -179,13 +179,11 @@ length_within true true value most n fits is =
     let tested : nat_le value most ≡ true = sym fits in
     let within : value ≤ most = grind (arith, nat_tests) in
     omega arith
-length_within true false value most n fits is = absurd cc
-length_within false fits value most n tested is = absurd cc
+length_within _ _ value most n _ is = absurd cc
 
 values_within : (limits : Bounds) (values : List (List ℕ)) (n : ℕ) → content_length limits values ≡ Ok n → n ≤ limits.content
-values_within limits [] n is = absurd cc
 values_within limits (v ∷ []) n is = length_within (is_number v) (nat_le (digits_value 10 v) limits.content) (digits_value 10 v) limits.content n refl is
-values_within limits (v ∷ w ∷ values) n is = absurd cc
+values_within limits _ n is = absurd cc
 
 charset_within : (limits : Bounds) (said : Result ℕ ℕ) (fits : Bool) (n : ℕ) → length_and_charset fits said ≡ Ok n → said ≡ Ok n
 charset_within limits said true n is = is

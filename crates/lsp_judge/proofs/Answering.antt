@@ -71,12 +71,11 @@ clean_complete limits sizes given log says format events (records, is_log, c) en
 
 no_given : (v : Verdict) (rule : ℕ) (who : Who) (number event : ℕ)
     → no rule who number event ≡ as_given v → (n : ℕ) × (k : ℕ) × (v ≡ no rule who n k)
-no_given (yes t) rule who number event e = absurd cc
 no_given (no r w n k) rule who number event e =
     let rules : rule ≡ r = cc e in
     let whose : who ≡ w = cc e in
     (n, k, ap (λ x. no x w n k) (sym rules) ∙ ap (λ x. no rule x n k) (sym whose))
-no_given (bad_log n c) rule who number event e = absurd cc
+no_given _ rule who number event e = absurd cc
 
 -- an event that offends is no fault of the log
 pub no_fault : (limits : Bounds) (format : Format) (rs : List Record) (at : ℕ) (code : LogCode)
@@ -332,8 +331,7 @@ refused_on ruling (Err memory) err = ap Some err
 
 pub if_refused : (v : Verdict) (P : Type 0) → P → IfRefused v P
 if_refused (yes s) P p = tt
-if_refused (no rule who number event) P p = p
-if_refused (bad_log number code) P p = p
+if_refused _ P p = p
 
 -- an answer that is the verdict on the records
 pub answers_end : (completeness : Completeness) (old new : State)

@@ -107,8 +107,6 @@ ends_plain terms es false false = refl
 ends_complete : (terms : Terms) (es : List Event) (editor server : Bool)
     → completed es (unwrap_or (rest_of es editor server) (yes (summary terms es)))
     ≡ end_by Required terms es editor server
-ends_complete terms es true server = refl
-ends_complete terms es false true = refl
 ends_complete terms es false false = by_lack (incomplete (sent_in es))
   where
     by_lack : (o : Option ℕ)
@@ -116,6 +114,7 @@ ends_complete terms es false false = by_lack (incomplete (sent_in es))
         ≡ ends_with terms es (option_map (λ rule. (rule, who.Editor)) o)
     by_lack None = refl
     by_lack (Some rule) = refl
+ends_complete terms es _ _ = refl
 
 -- whether or not the session has to be complete
 pub by_end : (completeness : Completeness) (terms : Terms) (es : List Event) (editor server : Bool)

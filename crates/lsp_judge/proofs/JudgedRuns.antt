@@ -1,9 +1,8 @@
 -- `check` and `show` answer the verdict, and each log has one output of them.
 use Rattle.std.specs.Prelude.{is_some, option_map}
-use Rattle.std.proofs.Common.{◌≡◌, ◌∙◌, ℕ, true, List, Option, None, Some, ap, refl, subst, sym}
-use Rattle.lsp_docs.specs.Documents.{Terms}
+use Rattle.std.proofs.Common.{◌≡◌, ◌∙◌, ℕ, List, Option, Some, ap, refl, subst, sym}
 use Rattle.lsp_judge.specs.JudgingLaws.{JudgingAnswersVerdict, OneJudgingOutput}
-use Rattle.lsp_judge.specs.JudgingRun.{JudgingAsked, completed_by, due_for, judging_run, said_by}
+use Rattle.lsp_judge.specs.JudgingRun.{completed_by, due_for, judging_run, said_by}
 use Rattle.lsp_judge.specs.JudgingRun.{verdict_of}
 use Rattle.lsp_judge.proofs.JudgingRuns.{gives}
 use Rattle.lsp_judge.proofs.Told.{ends_verdict}
@@ -17,7 +16,7 @@ use Rattle.lsp_replay.proofs.Outputs.{judged_same}
 use Rattle.lsp_replay.proofs.RunLaws.{answers_verdict}
 use Rattle.lsp_verdict.specs.Complete.{IsVerdictBy}
 use Rattle.lsp_verdict.specs.Event.{Event}
-use Rattle.lsp_verdict.specs.Heard.{Heard, heard_events}
+use Rattle.lsp_verdict.specs.Heard.{heard_events}
 use Rattle.lsp_verdict.specs.Outcome.{ending}
 use Rattle.lsp_verdict.specs.Verdict.{Verdict, no_by}
 use Rattle.lsp_verdict.specs.declared.completeness.Completeness.{Completeness}

@@ -20,8 +20,6 @@ use Rattle.lsp_verdict.proofs.LookBackLemmas.{or_none_parts}
 clean_sound : (terms : Terms) (before events : List Event) (raws : List Raw)
     → AllZip Reads raws events → first_from (no_at terms) before events ≡ None → faults_in raws ≡ 0
 clean_sound terms before [] [] reads none = refl
-clean_sound terms before (e ∷ events) [] reads none = absurd reads
-clean_sound terms before [] (raw ∷ raws) reads none = absurd reads
 clean_sound terms before (e ∷ events) (content side bytes ∷ raws) reads none =
     clean_sound terms (before ++ e ∷ []) events raws reads.1
     (or_none_parts (no_at terms before e) (first_from (no_at terms) (before ++ e ∷ []) events)
@@ -35,6 +33,7 @@ clean_sound terms before (e ∷ events) (broken side rule ∷ raws) reads none =
     (first_from (no_at terms) (before ++ e ∷ []) events) none).0 in
     let same = subst (λ (x : Event). no_at terms before x ≡ None) reads.0 first in
     absurd cc
+clean_sound terms before _ _ reads none = absurd reads
 
 -- **a side's frames end inside one just where bytes are left**
 pub inside_is : (terms : Terms) (limits : Bounds) (s : frames.State) (records : List Record)

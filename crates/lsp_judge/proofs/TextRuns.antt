@@ -66,10 +66,8 @@ behind : (terms : Terms) (events : List Event) (flaw : Option (ℕ × LogCode))
     (editor server : Bool) → missing_answer (unwrap_or
     (option_or (bad_log_of flaw) (rest_of events editor server)) (yes (summary terms events)))
     ≡ end_answer (bad_log_of flaw)
-behind terms events (Some flaw) editor server = refl
-behind terms events None true server = refl
 behind terms events None false true = refl
-behind terms events None false false = refl
+behind terms events _ _ _ = refl
 
 abbrev pub asked : ℕ → List ℕ → TextAsked
 asked n uri = record { number = n; uri = uri; skips = false }
@@ -160,14 +158,9 @@ pub answer_is : (answer : TextAnswer) (outcome : Outcome) (text : String Global)
 answer_is (text_is t) outcome text ends is =
     ap (λ (o : Outcome). given_as o (string_bytes text)) ends
     ∙ ap text_is (sym (chars_from_encodes t (string_bytes text) (IsUtf8-string_bytes text) (sym is)))
-answer_is no_document outcome text ends is =
-    ap (λ (o : Outcome). given_as o (string_bytes text)) ends
-answer_is too_few outcome text ends is =
-    ap (λ (o : Outcome). given_as o (string_bytes text)) ends
-answer_is no_difference outcome text ends is =
-    ap (λ (o : Outcome). given_as o (string_bytes text)) ends
 answer_is (refused v) outcome text (given, ends, named) is =
     ap (λ (o : Outcome). given_as o (string_bytes text)) ends ∙ ap refused named
+answer_is _ outcome text ends is = ap (λ (o : Outcome). given_as o (string_bytes text)) ends
 
 module _ (limits : Bounds) (start now old new : Told) (Answers : List ℕ → TextAnswer → Type 0) where
   pub text_found : (outcome : Outcome) (bytes : List ℕ) (given : code.TextAnswer)

@@ -70,10 +70,9 @@ pub kept_all : (terms : Terms) (events : List Event) (flaw : Option (ℕ × LogC
     (editor server : Bool) → kept (unwrap_or
     (option_or (bad_log_of flaw) (rest_of events editor server)) (yes (summary terms events)))
     events ≡ events
-kept_all terms events (Some flaw) editor server = take-length events
 kept_all terms events None true server = take_before events
 kept_all terms events None false true = take_before events
-kept_all terms events None false false = take-length events
+kept_all terms events _ _ _ = take-length events
 
 -- ---- the No at an event that offends
 
@@ -120,9 +119,8 @@ ends_verdict Required limits log front v ends = record {
 pub read_notes : (raws : List Raw) (notes : List Noted) → AllZip IsNoted raws notes
     → AllZip Reads raws (events_of notes)
 read_notes [] [] all = tt
-read_notes [] (n ∷ notes) all = absurd all
-read_notes (r ∷ raws) [] all = absurd all
 read_notes (r ∷ raws) (n ∷ notes) all = (all.0.0, read_notes raws notes all.1)
+read_notes _ _ all = absurd all
 
 unfoldable pub told_verdict : (limits : Bounds) (log : List ℕ) (format : Option Format)
     (records : List Record) (heard : List Heard) (tail : Tail)

@@ -299,8 +299,7 @@ one_written limits e m d c next start now old new known s records some keeps sam
       wrote = wrote;
     }
   where
-    kept : (was : Option Format) → IsSome was → KeepsFormat was e.log.format
-        → e.log.format ≡ was
+    kept : (was : Option Format) → IsSome was → KeepsFormat was e.log.format → e.log.format ≡ was
     kept None some keeps = absurd cc
     kept (Some format) some keeps = keeps format refl
 

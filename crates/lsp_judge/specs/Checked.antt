@@ -99,8 +99,7 @@ first_line bytes = before_first (λ byte. byte == 10) bytes
 -- the verdict is a Yes for which no snapshot was compared: there is none, or each is unmatched
 abbrev pub compared_nothing : spec.Verdict → Bool
 compared_nothing (spec.yes s) = s.snapshots == s.unmatched
-compared_nothing (spec.no rule who number event) = false
-compared_nothing (spec.bad_log number code) = false
+compared_nothing _ = false
 
 -- what follows the first line of the report
 abbrev pub line_remark : spec.Verdict → List ℕ

@@ -1,6 +1,6 @@
 -- For which records a judge stands, and what it answers where they end.
 use Rattle.std.specs.Prelude.{◌≡◌, List, [], ◌∷◌, ◌++◌, Option, Some, None, option_and_then, ℕ}
-use Rattle.std.specs.Prelude.{Bool, true, false, Result, Ok, Err, IfSome, option_map, unwrap_or}
+use Rattle.std.specs.Prelude.{Bool, Result, Ok, Err, IfSome, unwrap_or}
 use Rattle.std.specs.List.{AllZip}
 use Rattle.lsp_frame.specs.Bounds.{Bounds, IsInRange}
 use Rattle.lsp_frame.specs.declared.format.Format.{Format}
@@ -15,7 +15,7 @@ use Rattle.lsp_replay.specs.LogEvents.{flaw_of}
 use Rattle.lsp_replay.specs.Streams.{ends_inside}
 use Rattle.lsp_replay.specs.declared.log_events.End.{End}
 use Rattle.lsp_replay.specs.declared.log_events.LogEvents.{LogEvents}
-use Rattle.lsp_verdict.specs.Event.{Event, sent_in}
+use Rattle.lsp_verdict.specs.Event.{Event}
 use Rattle.lsp_verdict.specs.Placed.{Raw, Reads}
 use Rattle.lsp_verdict.specs.declared.counts.Counts.{Counts}
 use Rattle.lsp_verdict.specs.Given.{as_given, offence_view, summary_view}
@@ -23,11 +23,9 @@ use Rattle.lsp_verdict.specs.Verdict.{Verdict, yes, no, bad_log, no_at, bad_log_
 use Rattle.lsp_verdict.specs.Verdict.{summary}
 use Rattle.lsp_verdict.specs.Outcome.{Offends}
 use Rattle.lsp_verdict.specs.declared.completeness.Completeness.{Completeness}
-use Rattle.lsp_verdict.specs.declared.completeness.Completeness.TheVariants.{Ignored, Required}
 use Rattle.lsp_verdict.specs.declared.verdict.Summary as code
 use Rattle.lsp_verdict.specs.declared.verdict.Who.{Who}
 use Rattle.lsp_verdict.specs.declared.verdict.Who.TheVariants as who
-use Rattle.lsp_types.specs.declared.rules.TheConstants as rules
 use Rattle.lsp_judge.specs.declared.ruling.Ruling.{Ruling}
 use Rattle.lsp_judge.specs.declared.ruling.Ruling.TheVariants.{No, BadLog, Memory}
 
@@ -99,8 +97,7 @@ pub record State : Type 0 where
 
 -- nothing was given: no event of the records offends, and all were heard
 abbrev pub IsOpen : State → List Record → Type 0
-IsOpen s records =
-    AreHeard s.limits s.format s.streams s.messages s.documents s.counts records
+IsOpen s records = AreHeard s.limits s.format s.streams s.messages s.documents s.counts records
 
 -- an event of the records offends, and this is the No at the first
 abbrev pub HasOffence : Bounds → Format → List Record → Verdict → Type 0

@@ -89,8 +89,7 @@ first_same : (x y a b : ℕ) (xs ys : List ℕ) → x ∷ y ∷ xs ≡ a ∷ b �
 first_same x y a b xs ys h = (cc, cc)
 
 no_pair : (x : ℕ) (c : List ℕ) → joins (x ∷ []) c ≡ false → take 2 (x ∷ c) ≡ 13 ∷ 10 ∷ [] → ⊥
-no_pair x [] apart is =
-    let e : length {A = ℕ} (x ∷ []) ≡ 2 = ap length is in absurd (omega arith)
+no_pair x [] apart is = let e : length {A = ℕ} (x ∷ []) ≡ 2 = ap length is in absurd (omega arith)
 no_pair x (y ∷ ys) apart is =
     let e = first_same x y 13 10 [] [] is in
     let joined : (is_return x && is_feed y) ≡ true = rw (e.0, e.1) refl in
@@ -265,8 +264,7 @@ pub record IsUpTo (place : ℕ) (e f : LineEnd) : Type 0 where
 
 pub record IsInFront (bs : List ℕ) (place n : ℕ) (e : LineEnd) : Type 0 where
   pub within : e.after ≤ place
-  pub boundary : place - e.after < length e.rest.now
-      → IsCharBoundary e.rest.now (place - e.after)
+  pub boundary : place - e.after < length e.rest.now → IsCharBoundary e.rest.now (place - e.after)
   pub end : (f : LineEnd) → IsUpTo place e f → IsLineEnd bs n f
 
 before_cut : (a c : List ℕ) (n at : ℕ) → joins a c ≡ false → n < ends_in a

@@ -119,8 +119,7 @@ one_cut text rest ps more at h cut is =
           subst AreParts (sym is)
           (AreParts-push ps p h.parts (IsUtf8-take rest at h.utf8 cut.boundary)
           (joins-front (joined ps) p q apart));
-      apart =
-          ap (λ (x : List ℕ). joins x q) pushed ∙ joins-farther (joined ps) p q apart cut.apart;
+      apart = ap (λ (x : List ℕ). joins x q) pushed ∙ joins-farther (joined ps) p q apart cut.apart;
       utf8 = IsUtf8-drop rest at h.utf8 cut.boundary;
     }
 

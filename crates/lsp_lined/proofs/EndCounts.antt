@@ -22,10 +22,8 @@ one_if b = cond b 1 0
 -- ---- bytes after others
 
 same_end : (f r s : Bool) → (r && s) ≡ false → (f || (r && not s)) ≡ (f || (r && true))
-same_end true r s h = refl
-same_end false false s h = refl
 same_end false true true h = absurd (true≢false h)
-same_end false true false h = refl
+same_end _ _ _ h = refl
 
 -- a byte ends a line as before, unless a LF joins it
 is_end-append : (x : ℕ) (a b : List ℕ) → joins (x ∷ a) b ≡ false → is_end x (a ++ b) ≡ is_end x a
@@ -92,10 +90,8 @@ length-before_line cs (l ∷ ls) h = refl
 
 length-put : (f r s : Bool) (l : Line) (ls both longer : List Line) → length both ≡ length ls → length longer ≡ length ls →
     length (cond f (l ∷ ls) (cond r (cond s both (l ∷ ls)) longer)) ≡ one_if (f || (r && not s)) + length ls
-length-put true r s l ls both longer e1 e2 = omega arith
 length-put false true true l ls both longer e1 e2 = omega arith
-length-put false true false l ls both longer e1 e2 = omega arith
-length-put false false s l ls both longer e1 e2 = omega arith
+length-put _ _ _ l ls both longer e1 e2 = omega arith
 
 -- a text has one line more than line ends
 length-lines_of : (t : List ℕ) → length (lines_of t) ≡ ends_in t + 1

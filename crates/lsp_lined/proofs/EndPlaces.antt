@@ -19,15 +19,13 @@ pub record IsAfterEnd (bs : List ℕ) (n after : ℕ) : Type 0 where
 
 -- an end stays one where fewer bytes follow
 end_alone : (f r s : Bool) → (f || (r && not s)) ≡ true → (f || (r && true)) ≡ true
-end_alone true r s h = refl
-end_alone false true s h = refl
 end_alone false false s h = h
+end_alone _ _ s h = refl
 
 starts_in_front : (bs : List ℕ) (k : ℕ) → 0 < k → starts_with_feed (take k bs) ≡ starts_with_feed bs
-starts_in_front [] zero some = absurd (omega arith)
 starts_in_front [] (suc k) some = refl
-starts_in_front (b ∷ bs) zero some = absurd (omega arith)
 starts_in_front (b ∷ bs) (suc k) some = refl
+starts_in_front _ zero some = absurd (omega arith)
 
 first_end : (b : ℕ) (bs : List ℕ) → is_end b bs ≡ true → IsAfterEnd (b ∷ bs) 0 1
 first_end b bs h =

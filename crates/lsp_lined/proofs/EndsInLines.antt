@@ -52,8 +52,7 @@ ends_with_return-chars bs u = sym (return_in_chars false (chars bs)) ∙ ap (end
 
 more_behind : (x l s e : List ℕ) → (e ≡ 13 ∷ [] → x ++ l ≡ [] → starts_with_feed s ≡ false) → IsEndBefore (x ++ l) e → IsEndBefore (x ++ (l ++ s)) e
 more_behind [] [] s e none h = elim h [ inl a ↦ inl a | inr k ↦ elim k [ inl a ↦ inr (inl a) | inr p ↦ inr (inr (p.0, none p.0 refl)) ] ]
-more_behind [] (c ∷ l) s e none h = h
-more_behind (c ∷ x) l s e none h = h
+more_behind _ _ s e none h = h
 
 last_return_any : (a : Bool) (x : List ℕ) → last_is_return false x ≡ true → last_is_return a x ≡ true
 last_return_any a [] h = absurd (false≢true h)

@@ -23,9 +23,8 @@ not_pushed bs places i lt is = ap (λ (xs : List ℕ). places ++ xs) (sym (place
 -- ---- bytes without a mark
 
 no_end : (f r s : Bool) → (f || r) ≡ false → (f || (r && s)) ≡ false
-no_end true r s h = absurd (true≢false h)
-no_end false true s h = absurd (true≢false h)
 no_end false false s h = refl
+no_end _ _ s h = absurd (true≢false h)
 
 -- they bring no place
 pub passed : (bs places : List ℕ) (i n : ℕ) → i + n ≤ length bs → ((k : ℕ) → i ≤ k → k < i + n → is_mark (get_or bs k 0) ≡ false) →

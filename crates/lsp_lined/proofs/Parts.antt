@@ -128,19 +128,16 @@ sums_of-append a b u h =
     (ap (units Utf16) cut ∙ units-append Utf16 (chars a) (chars b))
 
 amount_in-added : (by : Measure) (a b : Sums) → amount_in by (added a b) ≡ amount_in by a + amount_in by b
-amount_in-added Ends a b = refl
 amount_in-added (Units Utf8) a b = refl
-amount_in-added (Units Utf16) a b = refl
-amount_in-added (Units Utf32) a b = refl
+amount_in-added _ a b = refl
 
 pub amount-append : (by : Measure) (a b : List ℕ) → IsUtf8 a → joins a b ≡ false → amount by (a ++ b) ≡ amount by a + amount by b
 amount-append by a b u h = ap (amount_in by) (sums_of-append a b u h) ∙ amount_in-added by (sums_of a) (sums_of b)
 
 amount-nil : (by : Measure) → amount by [] ≡ 0
-amount-nil Ends = refl
-amount-nil (Units Utf8) = refl
 amount-nil (Units Utf16) = ap (units Utf16) chars-nil
 amount-nil (Units Utf32) = ap length chars-nil
+amount-nil _ = refl
 
 -- parts have as much as their text
 pub amount-joined : (by : Measure) (ps : List (List ℕ)) → AreParts ps → amount by (joined ps) ≡ sum_by (amount by) ps

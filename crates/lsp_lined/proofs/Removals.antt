@@ -64,8 +64,6 @@ limited_ok limit t u h =
 
 is_splice : (t s u : List ℕ) (x y : Option ℕ) (limit : ℕ) → spliced t x y s limit ≡ Ok u
     → IsSplice t u (between x y t) s
-is_splice t s u None y limit h = absurd (cc h)
-is_splice t s u (Some a) None limit h = absurd (cc h)
 is_splice t s u (Some a) (Some b) limit h =
     ⊎_elim
     (λ lt. let e : Err 606 ≡ Ok u = sym (cond-true _ _ _ (lt-ltb b a lt)) ∙ h in absurd (cc e))
@@ -79,6 +77,7 @@ is_splice t s u (Some a) (Some b) limit h =
       new_is = λ enc. ap (units enc) is ∙ splice_units enc t s a b;
     })
     (cases_lt b a)
+is_splice t s u _ _ limit h = absurd (cc h)
 
 -- what an edit takes out and puts in
 pub exchange_made : (enc : Encoding) (bs ds s : List ℕ) (span : Span) (limit : ℕ) (old new : Sums)

@@ -1,12 +1,12 @@
 -- What comes after a place in its block, and the pieces that a loop over it takes.
-use Rattle.std.proofs.Common.{◌≡◌, ◌<◌, ◌≤◌, ◌+◌, ◌-◌, ℕ, false, List, [], ◌++◌, length, take}
+use Rattle.std.proofs.Common.{◌≡◌, ◌<◌, ◌≤◌, ◌+◌, ◌-◌, ℕ, false, List, ◌++◌, length, take}
 use Rattle.std.proofs.Common.{drop, get_or, refl, sym, ap, subst, ⊎_elim, ◌∙◌, arith}
 use Rattle.std.proofs.Common.{length-append, length-drop, append_assoc, take-add}
 use Rattle.std.proofs.lemmas.Bool.{cases_lt}
 use Rattle.std.proofs.lemmas.List.{append-nil, take-append-drop}
 use Rattle.std.proofs.lemmas.List.{drop-drop, length-take-le}
 use Rattle.std.proofs.lemmas.List.{get_or_append_left, get_or-append_right}
-use Rattle.std.specs.Str.{IsUtf8, IsCharBoundary}
+use Rattle.std.specs.Str.{IsCharBoundary}
 use Rattle.std.proofs.lemmas.Str.{IsUtf8-take}
 use Rattle.lsp_types.specs.declared.position.Encoding.TheVariants.{Utf8}
 use Rattle.lsp_lined.specs.Ends.{ends_in, joins, places_behind}
@@ -22,18 +22,6 @@ use Rattle.lsp_lined.proofs.Parts.{joined-at, joins-front, joins-back, joins-nea
 use Rattle.lsp_lined.proofs.Parts.{IsUtf8-joined}
 use Rattle.lsp_lined.proofs.PartPlaces.{before_part, after_part, after_last, part_between}
 use Rattle.lsp_lined.proofs.PartPlaces.{take-inside, drop-inside, found_units}
-use Rattle.lsp_lined.proofs.Spots.{joins-nothing}
-
--- a text is all of the rest of it
-pub whole_rest : (bs : List ℕ) → IsUtf8 bs → IsRest bs bs
-whole_rest bs u =
-    record {
-      utf8 = u;
-      more = [];
-      begins = sym (append-nil bs);
-      some = λ some. some;
-      apart = joins-nothing bs [] refl;
-    }
 
 -- ---- in the part that is found
 
@@ -82,8 +70,7 @@ found_rest ps offset f rest h k b r =
     record {
       utf8 = r.utf8;
       more = r.more ++ c;
-      begins =
-          cut.back ∙ ap (λ (x : List ℕ). x ++ c) r.begins ∙ append_assoc rest r.more c;
+      begins = cut.back ∙ ap (λ (x : List ℕ). x ++ c) r.begins ∙ append_assoc rest r.more c;
       some =
           λ some.
           ⊎_elim

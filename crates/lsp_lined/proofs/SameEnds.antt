@@ -49,8 +49,7 @@ span_len bs from to h =
     (omega (arith, length-drop from bs, h.order, h.second.boundary.0))
 
 span_utf8 : (bs : List ℕ) (from to : ℕ) → IsSpan bs from to → IsUtf8 (bytes_between bs from to)
-span_utf8 bs from to h =
-    IsUtf8-between bs from to h.utf8 h.order h.first.boundary h.second.boundary
+span_utf8 bs from to h = IsUtf8-between bs from to h.utf8 h.order h.first.boundary h.second.boundary
 
 pub ends_opened : (bs text : List ℕ) (from to start end : ℕ) → IsSpan bs start end
     → CanReplace bs from to → start ≤ from → to ≤ end → text ≡ bytes_between bs start end

@@ -156,8 +156,7 @@ lines_in_order view =
           λ a b c p q apart one two.
           lines_taken (view a) (view b) (view c) p q apart one two;
       early = λ a b p q apart h. otherwise_early (view a) p q apart h;
-      later =
-          λ a b c p q apart one h. otherwise_later (view a) (view b) p q apart one h;
+      later = λ a b c p q apart one h. otherwise_later (view a) (view b) p q apart one h;
     }
 
 -- ---- a part between others, in their text

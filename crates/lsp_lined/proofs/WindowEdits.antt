@@ -236,15 +236,13 @@ pub record IsInside (w : Windowed) (from to : ℕ) (text : List ℕ) : Type 0 wh
   pub last : to - w.before.bytes < length w.window
 
 abbrev spot_of : Windowed → ℕ → ℕ → Spot
-spot_of w from to =
-    record { index = 1; from = from - w.before.bytes; to = to - w.before.bytes }
+spot_of w from to = record { index = 1; from = from - w.before.bytes; to = to - w.before.bytes }
 
 abbrev pub window_with : Windowed → ℕ → ℕ → List ℕ → List ℕ
 window_with w from to text =
     replace_range w.window (from - w.before.bytes) (to - w.before.bytes) text
 
-front_len : (w : Windowed) → IsWindowed w
-    → length (take w.before.bytes w.tree) ≡ w.before.bytes
+front_len : (w : Windowed) → IsWindowed w → length (take w.before.bytes w.tree) ≡ w.before.bytes
 front_len w h = length-take-le w.before.bytes w.tree h.first.boundary.0
 
 inside_spot : (w : Windowed) (from to : ℕ) (text : List ℕ) → IsInside w from to text

@@ -146,8 +146,7 @@ end_in_window w n e f h le is moved =
 -- the line ends of all, and of the chunks
 pub record AreCounted (w : Windowed) : Type 0 where
   pub text : ends_in (text_with w) ≡ w.before.ends + (ends_in w.window + ends_in (back_of w))
-  pub front : ends_in w.tree
-      ≡ w.before.ends + ends_in (drop w.before.bytes w.tree)
+  pub front : ends_in w.tree ≡ w.before.ends + ends_in (drop w.before.bytes w.tree)
   pub tree : ends_in w.tree ≡ w.skipped.ends + ends_in (back_of w)
   pub most : ends_in w.tree ≤ length w.tree
 

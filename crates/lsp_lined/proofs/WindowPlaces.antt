@@ -36,8 +36,7 @@ use Rattle.lsp_lined.proofs.WindowEnds.{front_of, back_of, shown}
 pub record AreMeasured (w : Windowed) (enc : Encoding) (s : Sums) : Type 0 where
   pub before : amount_in (Units enc) w.before ≡ units enc (chars (front_of w))
   pub window : amount_in (Units enc) s ≡ units enc (chars w.window)
-  pub skipped : amount_in (Units enc) w.skipped
-      ≡ units enc (chars (take w.skipped.bytes w.tree))
+  pub skipped : amount_in (Units enc) w.skipped ≡ units enc (chars (take w.skipped.bytes w.tree))
   pub tree : units enc (chars w.tree)
       ≡ units enc (chars (take w.skipped.bytes w.tree)) + units enc (chars (back_of w))
   pub front : units enc (chars (front_of w ++ w.window))
@@ -50,8 +49,7 @@ pub record AreMeasured (w : Windowed) (enc : Encoding) (s : Sums) : Type 0 where
 
 units_both : (enc : Encoding) (a c : List ℕ) → IsUtf8 a
     → units enc (chars (a ++ c)) ≡ units enc (chars a) + units enc (chars c)
-units_both enc a c u =
-    ap (units enc) (chars-append a c u) ∙ units-append enc (chars a) (chars c)
+units_both enc a c u = ap (units enc) (chars-append a c u) ∙ units-append enc (chars a) (chars c)
 
 units_all : (enc : Encoding) (bs : List ℕ) → IsUtf8 bs → units enc (chars bs) ≤ length bs
 units_all enc bs u = omega (arith, units_le_bytes enc (chars bs), units-utf8_text bs u)
@@ -225,8 +223,7 @@ column_fits w enc s column n m k h at = (left_of w enc s column n m k h at).fits
 pub record IsOffsetAfter (w : Windowed) (enc : Encoding) (s : Sums) (column offset : ℕ)
     : Type 0 where
   pub order : w.skipped.bytes ≤ offset
-  pub at : IsOffset enc (text_with w) column
-      (offset - w.skipped.bytes + (w.before.bytes + s.bytes))
+  pub at : IsOffset enc (text_with w) column (offset - w.skipped.bytes + (w.before.bytes + s.bytes))
 
 -- **and so is one after the window.**
 pub found_after : (w : Windowed) (enc : Encoding) (s : Sums) (column n m k offset : ℕ)
@@ -425,7 +422,6 @@ spans w len h is =
       text =
           v.text ∙ ap (λ (x : List ℕ). x ++ (p ++ c)) (sym before)
           ∙ ap (λ (x : List ℕ). bytes_between t 0 w.before.bytes ++ (p ++ x)) (sym after);
-      apart =
-          ap₂ (λ (x y : List ℕ). joins x (p ++ y)) before after ∙ v.front.back_apart;
+      apart = ap₂ (λ (x y : List ℕ). joins x (p ++ y)) before after ∙ v.front.back_apart;
       window_apart = ap (joins p) after ∙ v.window.back_apart;
     }

@@ -114,21 +114,18 @@ spelled limits old mid before now h more a r after heads parts =
     ∙ sym (append_assoc (with_feed (head_line (head_of r))) (flat_map with_feed (parts_of r)) after)
 
 parts_break : (limits : Bounds) (old mid : Held) (before now : Told) (h : log.Head) (more : List ℕ) (a : AtParts limits old mid before now h) (flaw : Option Flaw) → PartsBreak h (mid.rest ++ more) flaw → EndsWith limits (old.rest ++ (a.piece ++ more)) flaw
-parts_break limits old mid before now h more a None p = absurd p
-parts_break limits old mid before now h more a (Some bad_line) p = absurd p
-parts_break limits old mid before now h more a (Some bad_number) p = absurd p
 parts_break limits old mid before now h more a (Some cut_short) p = inr (h, mid.rest ++ more, has_head limits old mid before now h more a, p)
 parts_break limits old mid before now h more a (Some bad_end) p = (h, mid.rest ++ more, has_head limits old mid before now h more a, p.0)
 parts_break limits old mid before now h more a (Some not_utf8) p = (p.0, p.1, spelled limits old mid before now h more a p.0 p.1 p.2 p.3, ap (in_range limits) p.2 ∙ a.range, p.4)
+parts_break limits old mid before now h more a _ p = absurd p
 
 -- at most 64 bytes were read behind those that show the flaw
 parts_few : (limits : Bounds) (old mid : Held) (before now : Told) (h : log.Head) (more : List ℕ) (a : AtParts limits old mid before now h) (flaw : Option Flaw) → PartsBreak h (mid.rest ++ more) flaw → ReadsFew limits (old.rest ++ (a.piece ++ more)) flaw
-parts_few limits old mid before now h more a None p = tt
 parts_few limits old mid before now h more a (Some bad_line) p = absurd p
 parts_few limits old mid before now h more a (Some bad_number) p = absurd p
-parts_few limits old mid before now h more a (Some cut_short) p = tt
 parts_few limits old mid before now h more a (Some bad_end) p = (h, mid.rest ++ more, has_head limits old mid before now h more a, p.1)
 parts_few limits old mid before now h more a (Some not_utf8) p = (p.0, p.1, spelled limits old mid before now h more a p.0 p.1 p.2 p.3, ap (in_range limits) p.2 ∙ a.range, p.5)
+parts_few limits old mid before now h more a _ p = tt
 
 ends_parts : (limits : Bounds) (old mid new : Held) (before now after : Told) (h : log.Head) (flaw : Option Flaw) → AtParts limits old mid before now h → new.rest ≡ with_feed (head_line h) → Ends (PartsBreak h) mid new now after flaw → Ends (EndsAt limits new.rest) old new before after flaw
 ends_parts limits old mid new before now after h flaw a line f = record {
@@ -157,14 +154,12 @@ refused_at_parts limits old mid new before now after h a r = record {
 pub stop_at_parts : (limits : Bounds) (old mid new : Held) (before now after : Told) (h : log.Head) (stop : Stop) → AtParts limits old mid before now h → (is_flaw stop ≡ true → new.rest ≡ with_feed (head_line h)) → StopAnswer (PartsBreak h) (AwaitsPart (lengths_of h)) mid new now after stop
     → StopAnswer (EndsAt limits new.rest) (AwaitsRecord limits) old new before after stop
 stop_at_parts limits old mid new before now after h FirstLine a line s = s
-stop_at_parts limits old mid new before now after h Nothing a line s = absurd s.holds
-stop_at_parts limits old mid new before now after h Form a line s = absurd s.holds
-stop_at_parts limits old mid new before now after h Number a line s = absurd s.holds
 stop_at_parts limits old mid new before now after h Short a line s = ends_parts limits old mid new before now after h (Some cut_short) a (line refl) s
 stop_at_parts limits old mid new before now after h End a line s = ends_parts limits old mid new before now after h (Some bad_end) a (line refl) s
 stop_at_parts limits old mid new before now after h Text a line s = ends_parts limits old mid new before now after h (Some not_utf8) a (line refl) s
 stop_at_parts limits old mid new before now after h Read a line s = failed_then old.left mid.left before now after a.piece a.pulled s
 stop_at_parts limits old mid new before now after h Memory a line s = refused_at_parts limits old mid new before now after h a s
+stop_at_parts limits old mid new before now after h _ a line s = absurd s.holds
 
 pub found_record : (limits : Bounds) (old mid new : Held) (before now after : Told) (h : log.Head) (r : log.Record) → AtParts limits old mid before now h → HasParts mid new now after h r → Found limits old new before after r
 found_record limits old mid new before now after h r a p = record {

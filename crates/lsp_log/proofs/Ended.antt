@@ -109,12 +109,8 @@ closed_whole limits sizes format before now bytes held records left flaw none r 
 }
   where
     has_code : {X : Type 0} (f : Option Flaw) → wants_bytes f ≡ false → code_of f false ≡ None → X
-    has_code None p q = absurd cc
     has_code (Some cut_short) p q = absurd cc
-    has_code (Some bad_line) p q = absurd cc
-    has_code (Some bad_number) p q = absurd cc
-    has_code (Some bad_end) p q = absurd cc
-    has_code (Some not_utf8) p q = absurd cc
+    has_code _ p q = absurd cc
 
 -- bytes are wanted, and the log goes on past its limit
 closed_cut : (limits : Bounds) → IsInRange limits → (format : Format) (before now after : Told) (bytes held : List ℕ) (records : List log.Record) (left : ℕ) (flaw : Option Flaw) → wants_bytes flaw ≡ true → Reached limits format before now bytes held records left flaw → IsCutAt left now after true
@@ -142,12 +138,8 @@ closed_cut limits sizes format before now after bytes held records left flaw wan
     }
   where
     has_code : {X : Type 0} (f : Option Flaw) → wants_bytes f ≡ true → code_of f true ≡ None → X
-    has_code None p q = absurd cc
     has_code (Some cut_short) p q = absurd cc
-    has_code (Some bad_line) p q = absurd cc
-    has_code (Some bad_number) p q = absurd cc
-    has_code (Some bad_end) p q = absurd cc
-    has_code (Some not_utf8) p q = absurd cc
+    has_code _ p q = absurd cc
 
 -- bytes are wanted, and the reader is at its end
 closed_at_end : (limits : Bounds) → IsInRange limits → (format : Format) (before now after : Told) (bytes held : List ℕ) (records : List log.Record) (left : ℕ) (flaw : Option Flaw) → wants_bytes flaw ≡ true → Reached limits format before now bytes held records left flaw → IsCutAt left now after false
@@ -353,10 +345,8 @@ given_memory s tape before after bytes records range place o near r = record {
 
 cut_cases : (s : State) (now after : Told) (stop : Stop) (end : Result (Unit {0}) LogFault) → CutEnd s now after stop end
     → ((s.tape.left ≡ 0) × ReadFailed 0 now after × (end ≡ Err log_fault.Read)) ⊎ ((cut : Bool) × IsCutAt s.tape.left now after cut × (end ≡ fault_of s.given cut stop))
-cut_cases s now after stop (Ok x) c = inr c
-cut_cases s now after stop (Err (log_fault.Bad number code)) c = inr c
 cut_cases s now after stop (Err log_fault.Read) c = inl (c.0, c.1, refl)
-cut_cases s now after stop (Err log_fault.Memory) c = inr c
+cut_cases s now after stop _ c = inr c
 
 whole_end : (s : State) (tape : Held) (before now after : Told) (bytes : List ℕ) (records : List log.Record) (flaw : Option Flaw) (end : Result (Unit {0}) LogFault) → StandsFor s bytes records → Reads s bytes records → wants_bytes flaw ≡ false → Ends (EndsAt s.limits tape.rest) s.tape tape before now flaw
     → (after ≡ now) × (end ≡ end_of s.given (code_of flaw false)) → Given (over s tape end) before after (answer_of end) bytes records
@@ -402,13 +392,9 @@ ends_at s tape before now after Memory end bytes records free stands a e = as_is
 
 tells_code : (given : ℕ) (flaw : Option Flaw) (cut : Bool) (format : Option Format) → IsSome format → TellsFormat (answer_of (end_of given (code_of flaw cut))) format
 tells_code given None false format some = some
-tells_code given None true format some = some
 tells_code given (Some bad_line) cut format some = some
-tells_code given (Some bad_number) cut format some = some
 tells_code given (Some cut_short) false format some = some
-tells_code given (Some cut_short) true format some = some
-tells_code given (Some bad_end) cut format some = some
-tells_code given (Some not_utf8) cut format some = some
+tells_code given _ _ format some = some
 
 tells_as : (format : Option Format) (end known : Result (Unit {0}) LogFault) → end ≡ known → TellsFormat (answer_of known) format → TellsFormat (answer_of end) format
 tells_as format end known is tells = subst (λ (e : Result (Unit {0}) LogFault). TellsFormat (answer_of e) format) (sym is) tells

@@ -27,14 +27,8 @@ use Rattle.lsp_log.proofs.Ended.{over, ends_at, tells_at}
 -- the first line is missing, or the reader failed before it was read
 first_fails : (s : State) (tape : Held) (before after : Told) (stop : Stop) → s.progress ≡ progress.FirstLine → s.format ≡ None → length tape.rest ≤ 64 → FirstAnswer s.tape tape before after (Err stop) → FindAnswer s (record s { tape = tape }) before after (Err stop)
 first_fails s tape before after FirstLine at unknown short f = record { mid = s; now = before; begins = started refl refl; found = (at, unknown, f, short); same = refl }
-first_fails s tape before after Nothing at unknown short f = absurd f
-first_fails s tape before after Form at unknown short f = absurd f
-first_fails s tape before after Number at unknown short f = absurd f
-first_fails s tape before after Short at unknown short f = absurd f
-first_fails s tape before after End at unknown short f = absurd f
-first_fails s tape before after Text at unknown short f = absurd f
 first_fails s tape before after Read at unknown short f = record { mid = s; now = before; begins = started refl refl; found = subst (λ (o : Option Format). FailsBehind o s.tape before after) (sym unknown) f; same = refl }
-first_fails s tape before after Memory at unknown short f = absurd f
+first_fails s tape before after _ at unknown short f = absurd f
 
 pub start_fails : (old s : State) (tape : Held) (before after : Told) (stop : Stop) → s ≡ old → s.progress ≡ progress.FirstLine → FitsProgress s.progress s.format → length tape.rest ≤ 64 → FirstAnswer s.tape tape before after (Err stop) → FindAnswer old (record s { tape = tape }) before after (Err stop)
 start_fails old s tape before after stop same at fits short f =
@@ -52,16 +46,9 @@ fails_behind None tape before after some f = absurd cc
 fails_behind (Some format) tape before after some f = f
 
 found_from : (s : State) (tape : Held) (before after : Told) (result : Result Record Stop) → s.progress ≡ progress.Records → IsSome s.format → length tape.rest ≤ 64 → FoundAnswer s.limits s.tape tape before after result → FoundFrom s tape before after result
-found_from s tape before after (Ok r) at some near f = (at, some, near, f)
 found_from s tape before after (Err FirstLine) at some near f = absurd f
-found_from s tape before after (Err Nothing) at some near f = (at, some, near, f)
-found_from s tape before after (Err Form) at some near f = (at, some, near, f)
-found_from s tape before after (Err Number) at some near f = (at, some, near, f)
-found_from s tape before after (Err Short) at some near f = (at, some, near, f)
-found_from s tape before after (Err End) at some near f = (at, some, near, f)
-found_from s tape before after (Err Text) at some near f = (at, some, near, f)
 found_from s tape before after (Err Read) at some near f = fails_behind s.format s.tape before after some f
-found_from s tape before after (Err Memory) at some near f = (at, some, near, f)
+found_from s tape before after _ at some near f = (at, some, near, f)
 
 pub find_done : (s mid i : State) (tape : Held) (before now after : Told) (result : Result Record Stop) → i ≡ mid → StartAnswer {X = Unit {0}} s mid before now (Ok tt) → length tape.rest ≤ 64 → FoundAnswer i.limits i.tape tape now after result
     → FindAnswer s (record i { tape = tape }) before after result
@@ -76,11 +63,10 @@ find_done s mid i tape before now after result same a near f = record {
 -- ---- what the answer says, behind what was read in front
 
 tells_from : (new : State) (before now after : Told) (bytes : List ℕ) (records : List log.Record) (result : Result (Option Record) LogFault) → now.failures ≡ before.failures → Tells new now after bytes records result → Tells new before after bytes records result
-tells_from new before now after bytes records (Ok (Some r)) same t = t ∙ same
 tells_from new before now after bytes records (Ok None) same t = (t.0, t.1, t.2 ∙ same)
 tells_from new before now after bytes records (Err (log_fault.Bad number code)) same t = (t.0, t.1 ∙ same)
 tells_from new before now after bytes records (Err log_fault.Read) same t = t ∙ ap after_failure same
-tells_from new before now after bytes records (Err log_fault.Memory) same t = t ∙ same
+tells_from new before now after bytes records _ same t = t ∙ same
 
 given_behind : (s mid new : State) (before now after : Told) (result : Result (Option Record) LogFault) (bytes : List ℕ) (records : List log.Record) (m : Moved s mid before now bytes records) → Given new now after result (bytes ++ m.piece) records
     → Given new before after result bytes records

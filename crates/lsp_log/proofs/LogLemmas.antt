@@ -145,13 +145,12 @@ same_head g h us bs p q e =
 
 same_part : (b c us bs : List ℕ) → length b ≡ length c → with_feed b ++ us ≡ with_feed c ++ bs → (b ≡ c) × (us ≡ bs)
 same_part [] [] us bs len e = (refl, cc e)
-same_part [] (y ∷ ys) us bs len e = absurd (omega arith)
-same_part (x ∷ xs) [] us bs len e = absurd (omega arith)
 same_part (x ∷ xs) (y ∷ ys) us bs len e =
     let rest : with_feed xs ++ us ≡ with_feed ys ++ bs = cc e in
     let t = same_part xs ys us bs (omega arith) rest in
     let head : x ≡ y = cc e in
     (cc (head, t.0), t.1)
+same_part _ _ us bs len e = absurd (omega arith)
 
 pub small_decimal : (n : ℕ) → n < 10 ^ 64 → has_decimal n ≡ true
 small_decimal n small = lt-ltb n (10 ^ 64) small
@@ -256,8 +255,7 @@ part_fits b xs =
 by_tests : (short at : Bool) (after : List ℕ) (ns xs : List ℕ) → short ≡ false → at ≡ true → after ≡ xs
     → (if short then Some cut_short else (if at then parts_flaw ns after else Some bad_end)) ≡ parts_flaw ns xs
 by_tests false true after ns xs p q e = ap (parts_flaw ns) e
-by_tests true at after ns xs p q e = absurd cc
-by_tests false false after ns xs p q e = absurd cc
+by_tests _ _ after ns xs p q e = absurd cc
 
 pub one_part : (b : List ℕ) (ns xs : List ℕ) → parts_flaw (length b ∷ ns) (with_feed b ++ xs) ≡ parts_flaw ns xs
 one_part b ns xs = by_tests (nat_le (length (with_feed b ++ xs)) (length b)) (slice_index (with_feed b ++ xs) (length b) == 10) (drop (length b + 1) (with_feed b ++ xs)) ns xs (part_fits b xs) (ap (λ c. c == 10) (feed_at b xs)) (drop_at (with_feed b) xs (length b + 1) (omega (arith, length-append b (10 ∷ []))))
@@ -330,10 +328,9 @@ first_len Two = refl
 
 -- **Bytes begin with the first line of one format.**
 pub one_format : (p q : Format) (xs ys : List ℕ) → first_line p ++ xs ≡ first_line q ++ ys → p ≡ q
-one_format One One xs ys e = refl
 one_format One Two xs ys e = let differs : true ≡ false = ap (λ (w : List ℕ). slice_index w 12 == 49) e in absurd cc
 one_format Two One xs ys e = let differs : false ≡ true = ap (λ (w : List ℕ). slice_index w 12 == 49) e in absurd cc
-one_format Two Two xs ys e = refl
+one_format _ _ xs ys e = refl
 
 pub has_first_line : (limits : Bounds) (format : Format) (log : List ℕ) (rs : List Record) (c : Option LogCode) → HasRecords limits format log rs c → NoFirstLine (take limits.log log) → ⊥
 has_first_line limits format log rs c a none = none format (flat_map spelling rs ++ a.rest) (a.begins.whole ∙ append_assoc (first_line format) (flat_map spelling rs) a.rest)

@@ -59,10 +59,7 @@ seen_one f g e = sym (back f) ∙ ap unseen e ∙ back g
 
     back : (flaw : Flaw) → unseen (seen flaw) ≡ flaw
     back bad_line = refl
-    back bad_number = refl
-    back cut_short = refl
-    back bad_end = refl
-    back not_utf8 = refl
+    back _ = refl
 
 one_head : (limits : Bounds) (xs : List ℕ) (f g : Flaw) (h k : Head) (after afters : List ℕ) → HasLine xs (head_line h) after → is_writable h ≡ true → head_flaw limits h after ≡ seen f → HasLine xs (head_line k) afters → is_writable k ≡ true → head_flaw limits k afters ≡ seen g → f ≡ g
 one_head limits xs f g h k after afters a w p b v q =

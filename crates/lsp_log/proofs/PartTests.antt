@@ -14,8 +14,7 @@ lacks false at rest p = absurd cc
 
 misses : (short at : Bool) (rest : Option Flaw) → short ≡ false → at ≡ false → (if short then Some cut_short else (if at then rest else Some bad_end)) ≡ Some bad_end
 misses false false rest p q = refl
-misses false true rest p q = absurd cc
-misses true at rest p q = absurd cc
+misses _ _ rest p q = absurd cc
 
 pub not_le : (m n : ℕ) → n < m → nat_le m n ≡ false
 not_le m n more = by_test (nat_le m n) refl

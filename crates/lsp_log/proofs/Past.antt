@@ -42,11 +42,10 @@ same_flaw limits sizes rest front after flaw shown is ends breaks wants =
     ends
 
 past_one : (limits : Bounds) → IsInRange limits → (rest front after : List ℕ) (flaw : Flaw) → rest ≡ front ++ after → ReadsFew limits rest (Some flaw) → Breaks limits front flaw → wants_bytes (Some flaw) ≡ false → length after ≤ 64
-past_one limits sizes rest front after bad_line is few shown wants = past_all rest front after is few
-past_one limits sizes rest front after bad_number is few shown wants = past_all rest front after is few
 past_one limits sizes rest front after cut_short is few shown wants = absurd cc
 past_one limits sizes rest front after bad_end is few shown wants = past_head limits sizes rest front after is few shown
 past_one limits sizes rest front after not_utf8 is few shown wants = past_record limits sizes rest front after is few shown
+past_one limits sizes rest front after _ is few shown wants = past_all rest front after is few
 
 -- of the bytes that end the records at most 64 come after a front that shows a flaw
 past_front : (limits : Bounds) → IsInRange limits → (rest front after : List ℕ) (flaw : Option Flaw) (shown : Flaw) → rest ≡ front ++ after → EndsWith limits rest flaw → ReadsFew limits rest flaw → Breaks limits front shown → wants_bytes (Some shown) ≡ false → length after ≤ 64

@@ -42,9 +42,8 @@ stands_at s bytes records at range r place = (range, subst (λ (p : Progress). S
 
 -- how many bytes were read and how many may still be
 pub left_at : (s : State) (bytes : List ℕ) (records : List log.Record) (p : Progress) → kept_in p ≡ None → StandsAt p s bytes records → s.tape.left + length bytes ≡ s.limits.log
-left_at s bytes records progress.FirstLine free st = st.left
-left_at s bytes records progress.Records free st = st.left
 left_at s bytes records (progress.Over end) free st = absurd cc
+left_at s bytes records _ free st = st.left
 
 -- all that was read up to now, behind what was given
 pub behind : (s : State) (bytes piece more : List ℕ) (records : List log.Record) (o : Reads s bytes records) → s.tape.rest ++ piece ≡ more → bytes ++ piece ≡ (first_line o.format ++ flat_map spelling records) ++ more
@@ -150,10 +149,7 @@ record_stands s tape given place before after bytes records r f range o number =
 pub two_codes : (flaw : Option Flaw) (c d : Bool) → wants_bytes flaw ≡ false → code_of flaw c ≡ code_of flaw d
 two_codes None c d e = absurd cc
 two_codes (Some cut_short) c d e = absurd cc
-two_codes (Some bad_line) c d e = refl
-two_codes (Some bad_number) c d e = refl
-two_codes (Some bad_end) c d e = refl
-two_codes (Some not_utf8) c d e = refl
+two_codes _ c d e = refl
 
 -- the bytes up to here are within the limit, and then others follow; where bytes are wanted, none
 -- of those are within the limit

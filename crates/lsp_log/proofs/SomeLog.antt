@@ -108,9 +108,8 @@ behind_line limits bytes line after has = elim (head_or_not line has.short) [
 ]
 
 none_near : (n : ℕ) (xs : List ℕ) → holds 10 xs ≡ false → holds 10 (take n xs) ≡ false
-none_near zero xs none = refl
-none_near (suc n) [] none = refl
 none_near (suc n) (x ∷ xs) none = let p = or_parts (x == 10) (holds 10 xs) none in simp (p.0, none_near n xs p.1)
+none_near _ _ none = refl
 
 no_line : (limits : Bounds) (bytes : List ℕ) → holds_feed bytes ≡ false → Front limits bytes
 no_line limits bytes none = elim (cases_lt (length bytes) 64) [

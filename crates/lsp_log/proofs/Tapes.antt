@@ -124,9 +124,8 @@ part_ends a c d before after given t some is same =
 
 index_past : (xs ys : List ℕ) (n : ℕ) → length xs ≡ n → slice_index (xs ++ ys) n ≡ slice_index ys 0
 index_past [] ys zero e = refl
-index_past [] ys (suc n) e = absurd (omega (arith, e))
-index_past (x ∷ xs) ys zero e = absurd (omega (arith, e))
 index_past (x ∷ xs) ys (suc n) e = index_past xs ys n (omega (arith, e))
+index_past _ ys _ e = absurd (omega (arith, e))
 
 not_equal : (b c : ℕ) → (b ≡ c → ⊥) → (b == c) ≡ false
 not_equal b c differ = by_test (b == c) refl

@@ -63,10 +63,6 @@ module _ (terms : Terms) (before : List Heard) (h : Heard) (m : session.State) (
   -- ---- it offends
 
   module _ (rule : ℕ) (is : rule_of terms before h ≡ Some rule) where
-    pub own_offence : offence terms events event ≡ Some rule
-    own_offence =
-        ap (λ (es : List Event). offence terms es event) (sym (all_are_kept terms events clean)) ∙ is
-
     skipped : kept_of terms (heard_events (before ++ h ∷ [])) ≡ events
     skipped =
         ap (kept_of terms) (events-push before h)

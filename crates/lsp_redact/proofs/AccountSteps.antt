@@ -10,23 +10,22 @@ use Rattle.lsp_frame.specs.declared.format.Format.{Format}
 use Rattle.lsp_judge.specs.JudgingRun.{verdict_of}
 use Rattle.lsp_log.specs.Log.{Record, first_line, spelling}
 use Rattle.lsp_replay.specs.Run.{Tail}
-use Rattle.lsp_replay.specs.Telling.{Closes, IsEnd, Says, kept_before, rule_of}
+use Rattle.lsp_replay.specs.Telling.{Closes, IsEnd, Says, rule_of}
 use Rattle.lsp_replay.specs.declared.log_events.End.{End}
 use Rattle.lsp_replay.specs.declared.log_events.LogEvents.{LogEvents}
 use Rattle.lsp_replay.specs.declared.seen.Flow.TheVariants.{GoOn, Stop}
 use Rattle.lsp_replay.proofs.AllHeard.{first_after, none_is}
 use Rattle.lsp_replay.proofs.PassEnds.{Boxed}
 use Rattle.lsp_replay.proofs.Seeing.{events-push}
-use Rattle.lsp_verdict.specs.Event.{Event, fault}
+use Rattle.lsp_verdict.specs.Event.{Event}
 use Rattle.lsp_verdict.specs.Heard.{Heard, Rests, heard_events}
 use Rattle.lsp_verdict.specs.Offences.{rule_at}
 use Rattle.lsp_verdict.specs.Placed.{Raw}
-use Rattle.lsp_verdict.specs.Verdict.{Verdict, first_no, no_by}
+use Rattle.lsp_verdict.specs.Verdict.{Verdict, no_by}
 use Rattle.lsp_verdict.specs.declared.completeness.Completeness.TheVariants.{Ignored}
 use Rattle.lsp_verdict.specs.declared.outcome.Outcome.{Outcome}
 use Rattle.lsp_verdict.specs.declared.outcome.Outcome.TheVariants.{Done}
 use Rattle.lsp_verdict.proofs.LookBackLemmas.{each_of-snoc}
-use Rattle.lsp_verdict.proofs.Offences.Offending.{all_are_kept}
 use Rattle.lsp_redact.specs.Check.{Checks}
 use Rattle.lsp_redact.specs.Keeping.{Keeps}
 use Rattle.lsp_redact.specs.Kept.{Kept, awaits, kept_in, kept_of}
@@ -73,11 +72,6 @@ pub kept_in-push : (before : List Event) (event : Event)
 kept_in-push before event =
     each_of-snoc kept_of before event
     ∙ ap (λ (ks : List Kept). kept_in before ++ ks) (cons_last (kept_of before event))
-
--- where none of these offends, all of them are kept
-pub all_kept : (terms : Terms) (before : List Heard) → first_no terms (heard_events before) ≡ None
-    → kept_before terms before ≡ heard_events before
-all_kept terms before clean = all_are_kept terms (heard_events before) clean
 
 module _ (terms : Terms) (before : List Heard) (h : Heard) where
   abbrev events : List Event

@@ -27,8 +27,7 @@ this_came s u o d is step = subst (λ (r : Option ℕ). chars_steps s r u) is st
 -- the other text is over
 pub all_same : (text other : List ℕ) (n : ℕ) → n ≡ length other
     → first_other text (drop n other) ≡ None
-all_same text other n is =
-    ap (first_other text) (drop_all n other (omega (arith, is)))
+all_same text other n is = ap (first_other text) (drop_all n other (omega (arith, is)))
 
 -- the first text ends here
 pub ends_here : (cs : List ℕ) (s u : Chars) (n c : ℕ) → chars_steps s None u

@@ -1,5 +1,5 @@
 -- What stands for a content that is refused, as the code makes it.
-use Rattle.std.proofs.Common.{◌≡◌, ℕ, Bool, true, false, List, [], ◌∷◌, ◌++◌, Option, Some, None, refl}
+use Rattle.std.proofs.Common.{◌≡◌, ℕ, Bool, true, false, List, [], ◌∷◌, ◌++◌, Option, Some, refl}
 use Rattle.std.proofs.Common.{sym, ap, subst, ◌∙◌, ◌==◌, inl, inr, append-nil, if◌then◌else◌}
 use Rattle.std.proofs.Common.{true≢false}
 use Rattle.std.proofs.lemmas.Map.Views.{exact_unsigned_eq}
@@ -25,10 +25,9 @@ use Rattle.lsp_verdict.specs.Placed.{ReadsAs, broken, content, show}
 use Rattle.lsp_verdict.specs.declared.raw.Raw as code
 use Rattle.lsp_verdict.specs.declared.raw.Raw.TheVariants as raws
 use Rattle.lsp_verdict.proofs.Below.{not_both}
-use Rattle.lsp_redact.specs.Records.{content_records, records_of}
-use Rattle.lsp_redact.specs.Redacting.{IsBroken, IsFaultOf, broken_left}
-use Rattle.lsp_redact.specs.Broken.{bare_data, bare_if, bare_of, broken_content, left_of, refused_text}
-use Rattle.lsp_redact.specs.Shape.{breaks}
+use Rattle.lsp_redact.specs.Records.{content_records}
+use Rattle.lsp_redact.specs.Redacting.{IsBroken, IsFaultOf}
+use Rattle.lsp_redact.specs.Broken.{bare_data, bare_of, broken_content, left_of, refused_text}
 use Rattle.lsp_redact.specs.Broken as spec
 
 -- ---- rules 201 to 208 are not 209
@@ -52,8 +51,7 @@ least_of P (r ∷ rs) all rule h = by_test (λ more. least_of P rs all.1 rule mo
     by_test rest true is = subst P (same_rule r.0 rule is) all.0
     by_test rest false is = rest is
 
-value_below : (d : Data) (rule : ℕ) → broken_rule d ≡ Some rule
-    → rule ≡ rules.BAD_METHOD_PARAMS → ⊥
+value_below : (d : Data) (rule : ℕ) → broken_rule d ≡ Some rule → rule ≡ rules.BAD_METHOD_PARAMS → ⊥
 value_below d rule h =
     least_of (λ r. r ≡ rules.BAD_METHOD_PARAMS → ⊥)
     ((rules.MESSAGE_NOT_OBJECT, not (is_object d)) ∷ rules_on (parts_of d)) (

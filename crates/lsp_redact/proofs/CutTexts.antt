@@ -84,8 +84,7 @@ nothing_left [] h = refl
 nothing_left (x ∷ xs) h = absurd (omega (arith, h))
 
 no_characters : (front cs : List ℕ) → chars front ≡ cs → length front ≡ 0 → length cs ≡ 0
-no_characters front cs are h =
-    ap length (sym are ∙ ap chars (nothing_left front h) ∙ chars-nil)
+no_characters front cs are h = ap length (sym are ∙ ap chars (nothing_left front h) ∙ chars-nil)
 
 front_is : (text front rest cs : List ℕ) (most : ℕ) → 0 < most → IsInTwo text front rest cs
     → length cs ≤ most → (length cs < most → rest ≡ []) → IsFront text most (length front)
@@ -157,8 +156,7 @@ front_by text s u most r utf8 some starts ran =
         (subst (λ (rest : List ℕ). IsInTwo text [] rest []) (sym starts) (in_two_at_first text utf8))
         ran.1.1
 
-    at : (front rest : List ℕ) → text ≡ front ++ rest
-        → length front ≡ length text - length rest
+    at : (front rest : List ℕ) → text ≡ front ++ rest → length front ≡ length text - length rest
     at front rest whole = omega (arith, ap length whole, length-append front rest)
 
     by_last : (o : Option ℕ) → chars_steps ran.1.0 o u

@@ -24,10 +24,8 @@ use Rattle.lsp_redact.specs.View as view
 
 -- nothing of a result is read, where none is awaited
 unawaited : (m : Message) → head_of false m ≡ head_of false (outline m)
-unawaited (spoken.request id method params) = refl
-unawaited (spoken.notification method params) = refl
 unawaited (spoken.response id (spoken.result value)) = refl
-unawaited (spoken.response id (spoken.error code)) = refl
+unawaited _ = refl
 
 -- the params never are
 paramless : (awaited : Bool) (m : Message) → head_of awaited m ≡ head_of awaited (without_params m)

@@ -9,7 +9,6 @@ pub mod NamesShown
 pub mod ShownLists
 pub mod WrittenTexts
 pub mod AccountKeeps
-pub mod Letters
 pub mod ShownKept
 pub mod ApartTexts
 pub mod Copying

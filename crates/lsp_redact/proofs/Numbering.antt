@@ -37,12 +37,9 @@ same_either : (a b : Text) → bytes_eq a b ≡ bytes_eq b a
 same_either a b = by_answer (bytes_eq a b) refl (bytes_eq b a) refl
   where
     by_answer : (x : Bool) → bytes_eq a b ≡ x → (y : Bool) → bytes_eq b a ≡ y → x ≡ y
-    by_answer true p true q = refl
-    by_answer false p false q = refl
-    by_answer true p false q =
-        sym ((bytes_eq-Decides b a).1 (sym ((bytes_eq-Decides a b).0 p))) ∙ q
-    by_answer false p true q =
-        sym p ∙ (bytes_eq-Decides a b).1 (sym ((bytes_eq-Decides b a).0 q))
+    by_answer true p false q = sym ((bytes_eq-Decides b a).1 (sym ((bytes_eq-Decides a b).0 p))) ∙ q
+    by_answer false p true q = sym p ∙ (bytes_eq-Decides a b).1 (sym ((bytes_eq-Decides b a).0 q))
+    by_answer _ p _ q = refl
 
 -- a name is another than one that it differs from
 differs_other : (x name k : Text) → bytes_eq name x ≡ false → bytes_eq name k ≡ true
@@ -301,8 +298,7 @@ numbered_push es key number is numbered =
     by_place : (k : ℕ) → k < length (numbers_in es ++ number ∷ [])
         → (k < length (numbers_in es)) ⊎ (length (numbers_in es) ≤ k)
         → get_or (numbers_in es ++ number ∷ []) k 0 ≡ k + 1
-    by_place k within (inl lt) =
-        get_or-append (numbers_in es) (number ∷ []) 0 k lt ∙ numbered k lt
+    by_place k within (inl lt) = get_or-append (numbers_in es) (number ∷ []) 0 k lt ∙ numbered k lt
     by_place k within (inr le) =
         let last : k ≡ length (numbers_in es) =
         omega (arith, length-append (numbers_in es) (number ∷ [])) in

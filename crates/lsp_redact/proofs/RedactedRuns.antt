@@ -97,8 +97,7 @@ module _ (limits : Bounds) (sizes : IsInRange limits) (terms : Terms) (before : 
   same_said None s t x y p q = (p.0 ∙ sym q.0, end_same Done x y refl p.1 q.1)
   same_said (Some rule) s t x y p q = same_checks limits sizes _ _ s t x y p q
 
-  some_said : (o : Option ℕ)
-      → (out : List ℕ) × (x : Outcome) × SaysOf limits terms before h o out x
+  some_said : (o : Option ℕ) → (out : List ℕ) × (x : Outcome) × SaysOf limits terms before h o out x
   some_said None = ([], Done, (refl, refl))
   some_said (Some rule) = some_check limits _ _
 
@@ -252,8 +251,7 @@ module _ (limits : Bounds) (log out : List ℕ) (outcome : Outcome) (p : IsPasse
         → (outcome ≡ Unlike → ⊥) → (own : Verdict) × IsVerdict limits out own × (shows v own ≡ true)
     shows_verdict sizes v judged other = by_end p.is
       where
-        by_end : Stops ⊎ Closed
-            → (own : Verdict) × IsVerdict limits out own × (shows v own ≡ true)
+        by_end : Stops ⊎ Closed → (own : Verdict) × IsVerdict limits out own × (shows v own ≡ true)
         by_end (inl s) =
             subst (λ (w : Verdict). (own : Verdict) × IsVerdict limits out own × (shows w own ≡ true))
             (one_verdict limits sizes log _ v (stopped s) judged)

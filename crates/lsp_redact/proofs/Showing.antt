@@ -92,8 +92,7 @@ shows_same names x y is = record {
   value = λ before whole s begins. is;
 }
 
-pub writes_same : {X : Type 0} (r : Redaction) (x y : X) → y ≡ x
-    → Writes r r no_names (λ n. x) y
+pub writes_same : {X : Type 0} (r : Redaction) (x y : X) → y ≡ x → Writes r r no_names (λ n. x) y
 writes_same r x y is = record { same = refl; shows = shows_same r.names x y is }
 
 -- nothing is written yet

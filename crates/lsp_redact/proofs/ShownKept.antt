@@ -119,6 +119,5 @@ last_kept most old new raw rule o k before after is own =
 pub last_by : (most : ℕ) (r : Redaction) (raw : Raw) (rule : ℕ) (past : List Event) (event : Event)
     (before after : List ℕ) → kept_of past event ≡ None → IsBroken most raw event rule before after
     → AddsLast most r r raw rule (kept_of past event) before after
-last_by most r raw rule past (message m) before after none is = absurd (cc none)
 last_by most r raw rule past (fault side own) before after none is = writes_same r _ after is
-last_by most r raw rule past (snapshot uri number text) before after none is = absurd (cc none)
+last_by most r raw rule past _ before after none is = absurd (cc none)

@@ -29,15 +29,7 @@ pub rest_written : (old new : Redaction) (a : code.Act) (params : Option Data)
     → ((t : _) → a ≡ acts.Progress t → ⊥) → ((ms : _) → a ≡ acts.Register ms → ⊥)
     → WritesParams old new (call_of (act_view a)) params → WritesParams old new (act_view a) params
 rest_written old new (acts.Initialize o) params f0 f1 f2 f3 h = absurd (f0 o refl)
-rest_written old new acts.Initialized params f0 f1 f2 f3 h = h
-rest_written old new acts.Shutdown params f0 f1 f2 f3 h = h
-rest_written old new acts.Exit params f0 f1 f2 f3 h = h
-rest_written old new (acts.DidOpen u v t) params f0 f1 f2 f3 h = h
-rest_written old new (acts.DidChange u v cs) params f0 f1 f2 f3 h = h
-rest_written old new (acts.DidClose u) params f0 f1 f2 f3 h = h
-rest_written old new (acts.DidSave u t) params f0 f1 f2 f3 h = h
 rest_written old new (acts.Cancel i) params f0 f1 f2 f3 h = absurd (f1 i refl)
 rest_written old new (acts.Progress t) params f0 f1 f2 f3 h = absurd (f2 t refl)
-rest_written old new acts.Early params f0 f1 f2 f3 h = h
 rest_written old new (acts.Register ms) params f0 f1 f2 f3 h = absurd (f3 ms refl)
-rest_written old new acts.Other params f0 f1 f2 f3 h = h
+rest_written old new _ params f0 f1 f2 f3 h = h

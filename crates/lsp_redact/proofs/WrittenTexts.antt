@@ -71,8 +71,7 @@ registrations_plain (n ∷ ns) = registrations_plain ns
 
 offered_plain : (offered : Option (List Name)) → IsPlain (offered_data offered)
 offered_plain None = refl
-offered_plain (Some offered) =
-    none_of _ false (none_of _ false (encodings_plain offered) refl) refl
+offered_plain (Some offered) = none_of _ false (none_of _ false (encodings_plain offered) refl) refl
 
 span_plain : (span : Option Span) → IsPlainIf (option_map span_data span)
 span_plain None = tt
@@ -126,8 +125,7 @@ answered_plain None = refl
 answered_plain (Some id) = id_plain id
 
 -- **a message has none**
-pub no_float : (head : Head) (params : Params)
-    → has_float (object (members_of head params)) ≡ false
+pub no_float : (head : Head) (params : Params) → has_float (object (members_of head params)) ≡ false
 no_float (request id method) params =
     call_plain (Some (id_data id)) (written_method method) (params_of params) (id_plain id)
     (params_plain params)

@@ -89,8 +89,7 @@ is_fault (bad_log number code) = true
 
 abbrev pub is_yes : Verdict → Bool
 is_yes (yes s) = true
-is_yes (no rule who number event) = false
-is_yes (bad_log number code) = false
+is_yes _ = false
 
 -- **a log with the second verdict shows the first**: it is the same but for names, or Yes up to a
 -- fault

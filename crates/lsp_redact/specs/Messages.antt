@@ -207,8 +207,7 @@ abbrev pub answer_members : Data → Text → Data → Members
 answer_members id name value = put name value (member (codes "id") id version_member)
 
 abbrev pub response_members : Option Id → Reply → Members
-response_members id reply =
-    answer_members (answered_data id) (reply_name reply) (reply_data reply)
+response_members id reply = answer_members (answered_data id) (reply_name reply) (reply_data reply)
 
 -- the members of a message with these params
 abbrev pub members_of : Head → Params → Members

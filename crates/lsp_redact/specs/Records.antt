@@ -28,8 +28,7 @@ content_records most side bytes = map (chunk side) (pieces most (canonical bytes
 abbrev pub records_of : ℕ → Event → List Record
 records_of most (message side head params) = content_records most side (content_of head params)
 records_of most (refused side content) = content_records most side (refused_text content)
-records_of most (snapshot uri number text) =
-    shown number (written_uri uri) (written_text text) ∷ []
+records_of most (snapshot uri number text) = shown number (written_uri uri) (written_text text) ∷ []
 
 -- **what is written of what is left of a log**, in records of so many characters
 abbrev pub written : ℕ → Shape → List ℕ

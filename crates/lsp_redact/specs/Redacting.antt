@@ -13,9 +13,9 @@ use Rattle.lsp_log.specs.Log.{spelling}
 use Rattle.lsp_replay.specs.Run.{Run, Tail}
 use Rattle.lsp_replay.specs.Telling.{rule_of}
 use Rattle.lsp_types.specs.declared.side.Side.{Side}
-use Rattle.lsp_verdict.specs.Event.{Event, fault, message, snapshot}
+use Rattle.lsp_verdict.specs.Event.{Event, fault}
 use Rattle.lsp_verdict.specs.Heard.{Heard, heard_events}
-use Rattle.lsp_verdict.specs.Placed.{Raw, content, broken, show}
+use Rattle.lsp_verdict.specs.Placed.{Raw, content}
 use Rattle.lsp_verdict.specs.Verdict.{no_by}
 use Rattle.lsp_verdict.specs.declared.completeness.Completeness.TheVariants.{Ignored}
 use Rattle.lsp_verdict.specs.declared.outcome.Outcome.{Outcome}
@@ -64,8 +64,7 @@ names_to before event = names_in (kept_in before ++ option_to_list (kept_of befo
 -- the frames
 abbrev pub broken_left : Raw → ℕ → List shape.Event
 broken_left (content side bytes) rule = shape.refused side (left_of bytes rule) ∷ []
-broken_left (broken side rule) _ = []
-broken_left (show number uri text) rule = []
+broken_left _ rule = []
 
 -- what is left of an event of which this is kept
 abbrev pub last_left : Names → Option ℕ → Raw → ℕ → Option Kept → List shape.Event
@@ -142,10 +141,9 @@ IsFaultOf rule event = (side : Side) (own : ℕ) → event ≡ fault side own �
 -- what is left of a content of a side that is refused by this rule is added; of a fault of the
 -- frames nothing is, and a message and a snapshot are kept
 abbrev pub IsBroken : ℕ → Raw → Event → ℕ → List ℕ → List ℕ → Type 0
-IsBroken most raw (message m) rule text_before text_after = Unit {0}
 IsBroken most raw (fault side own) rule text_before text_after = text_after
     ≡ text_before ++ flat_map spelling (flat_map (records_of most) (broken_left raw rule))
-IsBroken most raw (snapshot uri number text) rule text_before text_after = Unit {0}
+IsBroken most raw _ rule text_before text_after = Unit {0}
 
 -- what is left of the event that offends by this rule, of which this is kept, is added
 abbrev pub AddsLast : ℕ → Redaction → Redaction → Raw → ℕ → Option Kept → List ℕ → List ℕ → Type 0

@@ -37,13 +37,8 @@ shown_act names apart (act.did_save uri text) =
     shape.did_save (uri_of names uri) (option_map (bytes_left apart) text)
 shown_act names apart (act.cancel id) = shape.cancel (shown_id names id)
 shown_act names apart (act.progress token) = shape.progress (shown_id names token)
-shown_act names apart (act.register methods) =
-    shape.register (map (shown_method names) methods)
-shown_act names apart act.initialized = shape.unread
-shown_act names apart act.shutdown = shape.unread
-shown_act names apart act.exit = shape.unread
-shown_act names apart act.early = shape.unread
-shown_act names apart act.other = shape.unread
+shown_act names apart (act.register methods) = shape.register (map (shown_method names) methods)
+shown_act names apart _ = shape.unread
 
 abbrev pub shown_reply : Names → kept.Reply → shape.Reply
 shown_reply names (kept.picks picked) = shape.picks (shown_picked names picked)

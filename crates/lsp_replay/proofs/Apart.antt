@@ -31,10 +31,8 @@ none_waits (i ∷ rest) h = absurd (cc)
 -- ---- what is left of a message
 
 without_twice : (m : Message) → without_result (without_result m) ≡ without_result m
-without_twice (request id method params) = refl
-without_twice (notification method params) = refl
 without_twice (response id (result value)) = refl
-without_twice (response id (error code)) = refl
+without_twice _ = refl
 
 bare_twice : (m : Message) → without_params (without_params m) ≡ without_params m
 bare_twice (request id method params) = refl
@@ -42,22 +40,16 @@ bare_twice (notification method params) = refl
 bare_twice (response id reply) = refl
 
 outline_twice : (m : Message) → outline (outline m) ≡ outline m
-outline_twice (request id method params) = refl
-outline_twice (notification method params) = refl
 outline_twice (response id (result value)) = refl
-outline_twice (response id (error code)) = refl
+outline_twice _ = refl
 
 outline_bare : (m : Message) → outline m ≡ outline (without_params m)
-outline_bare (request id method params) = refl
-outline_bare (notification method params) = refl
 outline_bare (response id (result value)) = refl
-outline_bare (response id (error code)) = refl
+outline_bare _ = refl
 
 outline_split : (m : Message) → outline m ≡ without_params (without_result m)
-outline_split (request id method params) = refl
-outline_split (notification method params) = refl
 outline_split (response id (result value)) = refl
-outline_split (response id (error code)) = refl
+outline_split _ = refl
 
 -- a content that says something, where its result is left out only if nothing reads it
 module _ (results : Results) (side : Side) (content : List ℕ) (s : Spoken) (events : List Event)

@@ -108,8 +108,7 @@ some_rests limits records =
 
 -- of records that begin with these
 abbrev pub RestsBehind : Bounds → List Record → Rests → Type 0
-RestsBehind limits records rests =
-    (more : List Record) × AreRests limits (records ++ more) rests
+RestsBehind limits records rests = (more : List Record) × AreRests limits (records ++ more) rests
 
 -- records that go on have these first
 pub rests_behind : (limits : Bounds) (front records : List Record) (rests : Rests)

@@ -28,8 +28,7 @@ whose_content side bytes (snapshot uri n t) reads = absurd reads
 -- an event is read as one of the same origin
 pub whose_read : (raw : Raw) (e : Event) → Reads raw e → whose e ≡ whose_raw raw
 whose_read (content side bytes) e reads = whose_content side bytes e reads
-whose_read (broken side rule) e reads = ap whose reads
-whose_read (show n uri t) e reads = ap whose reads
+whose_read _ e reads = ap whose reads
 
 module _ (raw : Raw) (terms : Terms) (events : List Event) (event : Event)
     (reads : Reads raw event) where

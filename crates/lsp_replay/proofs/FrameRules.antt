@@ -58,33 +58,29 @@ refused_high side bytes rule (inr (is, bad)) = ap (λ k. nat_le k 106) is
 
 content_no_fault : (own side : Side) (bytes : List ℕ) (e : Event) → ReadsAs side bytes e
     → is_frame_fault own e ≡ false
-content_no_fault own side bytes (message m) reads = refl
-content_no_fault own side bytes (snapshot uri n t) reads = refl
 content_no_fault own side bytes (fault by rule) reads =
     ap (λ b. same_side own by && b) (refused_high side bytes rule reads.1)
     ∙ and-false (same_side own by)
+content_no_fault own side bytes _ reads = refl
 
 -- whether it is one of this side's, before it is read
 abbrev is_break : Side → Raw → Bool
-is_break side (content by bytes) = false
 is_break side (broken by rule) = same_side side by && nat_le rule 106
-is_break side (show number uri text) = false
+is_break side _ = false
 
 read_fault : (side : Side) (raw : Raw) (e : Event) → Reads raw e
     → is_frame_fault side e ≡ is_break side raw
 read_fault side (content by bytes) e reads = content_no_fault side by bytes e reads
-read_fault side (broken by rule) e reads = ap (is_frame_fault side) reads
-read_fault side (show number uri text) e reads = ap (is_frame_fault side) reads
+read_fault side _ e reads = ap (is_frame_fault side) reads
 
 all_faults : (side : Side) (raws : List Raw) (notes : List Noted) → AllZip IsNoted raws notes
     → list_any (is_frame_fault side) (events_of notes) ≡ list_any (is_break side) raws
 all_faults side [] [] all = refl
-all_faults side [] (n ∷ notes) all = absurd all
-all_faults side (raw ∷ raws) [] all = absurd all
 all_faults side (raw ∷ raws) (n ∷ notes) all =
     ap (λ b. b || list_any (is_frame_fault side) (events_of notes))
     (read_fault side raw n.event all.0.0)
     ∙ ap (λ b. is_break side raw || b) (all_faults side raws notes all.1)
+all_faults side _ _ all = absurd all
 
 -- those of a side are its own
 own_breaks : (side : Side) (raws : List Raw)

@@ -45,8 +45,7 @@ yes_given : (s : Summary) → CanHold s → IsGiven (yes s)
 yes_given s (held, is) = (verdicts.Yes held, ap yes is)
 
 -- a No at an event
-no_by_given : (before : List Event) (event : Event) (rule : ℕ)
-    → IsGiven (no_by before event rule)
+no_by_given : (before : List Event) (event : Event) (rule : ℕ) → IsGiven (no_by before event rule)
 no_by_given before event rule = no_given rule (whose event) _ _
 
 -- the No of a rule that is broken is answered
@@ -84,9 +83,8 @@ bad_may (Some flaw) = bad_given flaw.0 flaw.1
 -- ---- the verdict
 
 rest_may : (events : List Event) (editor server : Bool) → MayBeGiven (rest_of events editor server)
-rest_may events true server = no_given _ _ _ _
-rest_may events false true = no_given _ _ _ _
 rest_may events false false = tt
+rest_may events _ _ = no_given _ _ _ _
 
 first_may : (terms : Terms) (before events : List Event)
     → MayBeGiven (first_from (no_at terms) before events)
@@ -111,8 +109,7 @@ pub completed_given : (events : List Event) (v : Verdict) → IsGiven v → IsGi
 completed_given events (yes s) given =
     else_given (lack_of events) (yes s)
     (mapped_given _ (λ rule. no_given _ _ _ _) (incomplete (sent_in events))) given
-completed_given events (no rule by number event) given = given
-completed_given events (bad_log number fault) given = given
+completed_given events _ given = given
 
 -- ---- what is listed
 
@@ -127,9 +124,8 @@ OffencesGiven (o ∷ os) = IsGiven o.no × OffencesGiven os
 rests_given : (events : List Event) (editor server : Bool)
     → AllGiven (rests_listed events editor server)
 rests_given events true true = (no_given _ _ _ _, (no_given _ _ _ _, tt))
-rests_given events true false = (no_given _ _ _ _, tt)
-rests_given events false true = (no_given _ _ _ _, tt)
 rests_given events false false = tt
+rests_given events _ _ = (no_given _ _ _ _, tt)
 
 lacks_given : (completeness : Completeness) (events kept : List Event)
     → AllGiven (lacks_listed completeness events kept)

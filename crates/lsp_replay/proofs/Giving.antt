@@ -143,8 +143,7 @@ module _ (side : Side) (d : State) (bytes : List ℕ) (due : List Raw) (h : IsDu
 pub none_due : (side : Side) (left : List (List ℕ)) (breaks : Option ℕ)
     → [] ≡ map (content side) left ++ new_fault side None breaks → (left ≡ []) × (breaks ≡ None)
 none_due side [] None e = (refl, refl)
-none_due side [] (Some rule) e = absurd cc
-none_due side (c ∷ left) breaks e = absurd cc
+none_due side _ _ e = absurd cc
 
 one_rest : (limits : Bounds) (bytes : List ℕ) (contents : List (List ℕ)) (r s : List ℕ)
     → Frames limits bytes contents r → Frames limits bytes contents s → r ≡ s

@@ -53,12 +53,8 @@ unread_for side bytes terms events Memory is = tt
 pub silent : (raw : code.Raw)
     → ((side : Side) (bytes behind : _) → raw ≡ lent.Content side bytes behind → ⊥) → (event : Event)
     → Reads (raw_view raw) event → (sent : Sent) → event ≡ message sent → ⊥
-silent (lent.Content side bytes behind) not event reads sent is =
-    not side bytes behind refl
-silent (lent.Broken side rule rest) not event reads sent is =
-    let same = sym reads ∙ is in absurd (cc same)
-silent (lent.Snapshot number uri text) not event reads sent is =
-    let same = sym reads ∙ is in absurd (cc same)
+silent (lent.Content side bytes behind) not event reads sent is = not side bytes behind refl
+silent _ not event reads sent is = let same = sym reads ∙ is in absurd (cc same)
 
 -- a snapshot leaves the messages
 module _ (messages : session.State) (events : List Event)
@@ -122,9 +118,8 @@ module _ (side : Side) (bytes : List ℕ) (s : Spoken) (events : List Event) whe
 module _ (terms : Terms) (events : List Event) where
   pub rule_split : (event : Event) → IsSound event → offence terms events event
       ≡ option_or (message_rule events event) (document_rule terms events event)
-  rule_split (message m) sound = refl
   rule_split (broken_rule side rule) sound = absurd sound
-  rule_split (snapshot uri n t) sound = refl
+  rule_split _ sound = refl
 
   module _ (event : Event) (sound : IsSound event) where
     -- it is not admitted
@@ -145,9 +140,8 @@ pub not_tried : (terms : Terms) (events : List Event) (event : Event) (f : Fault
     → Tries terms events event f tried
 not_tried terms events (message m) (Rule rule) tried named = λ least.
     absurd (omega (arith, rules_end (sent_in events) m rule named, least))
-not_tried terms events (broken_rule side code) (Rule rule) tried named = absurd (cc named)
-not_tried terms events (snapshot uri n t) (Rule rule) tried named = absurd (cc named)
 not_tried terms events event Memory tried named = tt
+not_tried terms events _ (Rule rule) tried named = absurd (cc named)
 
 -- ---- its call
 
@@ -167,8 +161,7 @@ module _ (old : docs.State) (events : List Event) (h : docs.Stands old (calls ev
       named None refused = absurd refused
       named (Some call) refused = refused (calls events) h
   refused_as_call (content side bytes) Memory reads refuses lacks = tt
-  refused_as_call (broken side rule) Memory reads refuses lacks =
-      absurd (subst IsSound reads sound)
+  refused_as_call (broken side rule) Memory reads refuses lacks = absurd (subst IsSound reads sound)
   refused_as_call (show n uri t) Memory reads refuses lacks =
       let lacking = subst (MayLackFor old) (says ∙ ap (call_at events) reads) (lacks refl) in
       sym (lacking.1 (calls events) h)
@@ -193,12 +186,11 @@ module _ (old : docs.State) (events : List Event) (h : docs.Stands old (calls ev
           stands
           ∙ leaves_session (sent_in events) m.side m.message m.act _ _ says.0
           (subst (λ (by : Side). act_at by m.message ≡ Some m.act) (sym read.by) read.means) says.1
-      leaves (broken side rule) (message m) read says stands = absurd (cc read)
-      leaves (show n uri t) (message m) read says stands = absurd (cc read)
       leaves r (broken_rule side rule) read says stands = absurd (cc says.1)
       leaves r (snapshot uri n t) read says stands =
           subst (λ (w : List Sent). session.Stands messages w)
           (sent_in-append events (snapshot uri n t ∷ []) ∙ append-nil (sent_in events)) stands
+      leaves _ (message m) read says stands = absurd (cc read)
 
   -- it is taken
   module _ (new : docs.State) (took : Took) (takes : TakesCall old new said took) where

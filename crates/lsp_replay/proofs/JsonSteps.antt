@@ -97,8 +97,7 @@ module _ {run : Run} {empty grown shown : List ℕ} (clear : empty ≡ []) (same
   json_wants {terms} {before} {h} quiet rests fits s some =
       by_wants (run.wants terms before h) refl
     where
-      by_wants : (wants : Bool) → run.wants terms before h ≡ wants
-          → run.wants terms before h ≡ true
+      by_wants : (wants : Bool) → run.wants terms before h ≡ wants → run.wants terms before h ≡ true
       by_wants true is = is
       by_wants false is = absurd (some (same ∙ s.added ∙ ap (λ w. w ++ s.said) clear
           ∙ quiet terms rests before h s.said is (s.is rests fits)))

@@ -24,9 +24,8 @@ AreListed s calls found uris = (n : ℕ) × ((uris ≡ map uri_of (drop n (docum
 
 drop-suc : {A : Type 0} (n : ℕ) (xs rest : List A) (x : A) → drop n xs ≡ x ∷ rest
     → drop (suc n) xs ≡ rest
-drop-suc zero xs rest x is = ap (drop 1) is
-drop-suc (suc n) [] rest x is = ap (drop 1) is
 drop-suc (suc n) (y ∷ xs) rest x is = drop-suc n xs rest x is
+drop-suc _ _ rest x is = ap (drop 1) is
 
 drop-next : {A : Type 0} (n : ℕ) (xs rest : List A) (x : A) → drop n xs ≡ x ∷ rest
     → drop (n + 1) xs ≡ rest

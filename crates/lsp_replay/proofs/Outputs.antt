@@ -56,8 +56,6 @@ pub record IsTotal (run : Run) : Type 0 where
 
 same_heard : (hs ks : List Heard) → raws_of hs ≡ raws_of ks → notes_of hs ≡ notes_of ks → hs ≡ ks
 same_heard [] [] raws notes = refl
-same_heard [] (k ∷ ks) raws notes = absurd cc
-same_heard (h ∷ hs) [] raws notes = absurd cc
 same_heard (h ∷ hs) (k ∷ ks) raws notes =
     let seen : h.raw ∷ raws_of hs ≡ k.raw ∷ raws_of ks = raws in
     let noted : h.note ∷ notes_of hs ≡ k.note ∷ notes_of ks = notes in
@@ -67,6 +65,7 @@ same_heard (h ∷ hs) (k ∷ ks) raws notes =
     let later_notes : notes_of hs ≡ notes_of ks = cc in
     let later = same_heard hs ks later_raws later_notes in
     λ i. (let x : Heard = record { raw = raw i; note = note i } in x) ∷ later i
+same_heard _ _ raws notes = absurd cc
 
 -- the tail of a log of this format and these records, which has these rests
 abbrev tail_of : Bounds → List ℕ → Option Format → List Record → Option (ℕ × LogCode) → Rests → Tail
@@ -148,9 +147,8 @@ one_told limits sizes log x y p q =
 end_alike : (Ends : Outcome → Type 0)
     → ((a b : Outcome) → Ends a → Ends b → IsSameEnd a b) → (ended finished : Option Outcome)
     → IfSome ended Ends → IfSome finished Ends → EndAlike ended finished
-end_alike Ends same None finished p q = tt
-end_alike Ends same (Some a) None p q = tt
 end_alike Ends same (Some a) (Some b) p q = same a b p q
+end_alike Ends same _ _ p q = tt
 
 module _ (run : Run) (terms : Terms) (tail : Tail) where
   from_stop : (before first later : List Heard) (here : Heard) (front last : List ℕ)
@@ -245,8 +243,7 @@ module _ (run : Run) (terms : Terms) (tail : Tail) where
           → (b : Bool) → run.stops terms before h ≡ b
           → (out : List ℕ) × SaysOn run terms tail before (h ∷ hs) out None
       by_stop own rest true is = (own.0, inl (is, own.1, tt))
-      by_stop own rest false is =
-          (own.0 ++ rest.0, inr (is, (own.0, rest.0, refl, own.1, rest.1)))
+      by_stop own rest false is = (own.0 ++ rest.0, inr (is, (own.0, rest.0, refl, own.1, rest.1)))
 
   -- and so it ends
   some_end : IsTotal run → (before hs : List Heard) (out : List ℕ)

@@ -70,9 +70,8 @@ module _ (side : Side) (d : decoder.State) (bytes : List ℕ) (own due : List Ra
 no_break : (side : Side) (own : List Raw) (rule : ℕ) (contents : List (List ℕ))
     → own ++ broken side rule ∷ [] ≡ map (content side) contents → ⊥
 no_break side [] rule [] e = absurd cc
-no_break side [] rule (c ∷ contents) e = absurd cc
-no_break side (raw ∷ own) rule [] e = absurd cc
 no_break side (raw ∷ own) rule (c ∷ contents) e = no_break side own rule contents (cc e)
+no_break side _ rule _ e = absurd cc
 
 one_own : (side : Side) (rule : ℕ) (b : Bool) → b ≡ true
     → (let rs : List Raw = if b then broken side rule ∷ [] else [] in rs) ≡ broken side rule ∷ []

@@ -57,9 +57,8 @@ nothing_both (x ∷ xs) ys e = absurd cc
 -- a fault that is not one of the sink leaves its count
 pub by_sink : (old new : Told) (fault : RunFault) → new.failures ≡ old.failures
     → (fault ≡ faults.Write → ⊥) → new.failures ≡ sink_failures_after fault old.failures
-by_sink old new faults.Read same other = same
 by_sink old new faults.Write same other = absurd (other refl)
-by_sink old new faults.Memory same other = same
+by_sink old new _ same other = same
 
 -- nothing new was written
 pub broke_at : (run : Run) (limits : Bounds) (start now old new : Told) (out : List ℕ)
@@ -383,5 +382,4 @@ module _ (Asked : Type 0) (run_of : Asked → Run) (asked : Asked)
 
       pub goes_wrong : (own : Asked) → own ≡ asked → (fault : RunFault) → TellsNext own (Err fault)
           → Passes run limits start last old end (Err fault)
-      goes_wrong own same fault tells =
-          passing_fault fault (steps_of own (Err fault) same tells)
+      goes_wrong own same fault tells = passing_fault fault (steps_of own (Err fault) same tells)

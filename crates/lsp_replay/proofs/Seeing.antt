@@ -68,8 +68,7 @@ module _ {raw : Raw} {terms : Terms} {m : session.State} {d : docs.State} {c : C
   -- it breaks this rule, or none
   pub rule_here : (rule : Option ℕ) → offence d.terms kept h.note.event ≡ rule
       → rule_of terms before h ≡ rule
-  rule_here rule is =
-      ap (λ (t : Terms). offence t kept h.note.event) (sym comes.stood.by) ∙ is
+  rule_here rule is = ap (λ (t : Terms). offence t kept h.note.event) (sym comes.stood.by) ∙ is
 
   -- it is skipped
   pub stood_past : (rule : ℕ) (after : Counts) → rule_of terms before h ≡ Some rule

@@ -48,8 +48,7 @@ own_is (message m) = by_side m.side
     by_side Editor = refl
     by_side Server = refl
 own_is (broken Editor rule) = refl
-own_is (broken Server rule) = refl
-own_is (snapshot uri number text) = refl
+own_is _ = refl
 
 -- an event is one more of its own
 count_own : (xs : List Event) (e : Event)

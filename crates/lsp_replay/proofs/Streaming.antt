@@ -112,9 +112,7 @@ ends_in d new bytes last gives (inl (front, is, none)) =
 abbrev EndsDue : Side → decoder.State → List Record → Option Due → Type 0
 EndsDue side d records (Some (next.Content by len)) = (d.fault ≡ None)
     × ((last : List ℕ) × IsLastOf side records last × EndsIn d last)
-EndsDue side d records (Some (next.Broken by rule)) = Unit {0}
-EndsDue side d records (Some next.Snapshot) = Unit {0}
-EndsDue side d records None = Unit {0}
+EndsDue side d records _ = Unit {0}
 
 side_holds : (side : Side) (d new : decoder.State) (records : List Record) (given : Option Due)
     → StepsSide side d new given → HoldsLastOf side d records
@@ -200,19 +198,17 @@ stood limits side s e records past left range placed own same due other holds = 
   where
     limits_are : (side : Side) → e.limits ≡ limits
         → (by : Side) → (decoder_of by (put side e s)).limits ≡ limits
-    limits_are Editor same Editor = same
     limits_are Editor same Server = own Server
     limits_are Server same Editor = own Editor
-    limits_are Server same Server = same
+    limits_are _ same _ = same
 
     dues : (side : Side) → IsDue side e (joined side records) left
         → IsDue (other_side side) (decoder_of (other_side side) s) (joined (other_side side) records) []
         → (by : Side) → IsDue by (decoder_of by (put side e s)) (joined by records)
         (due_of by (Some (turn.Bytes side)) left)
-    dues Editor due other Editor = due
     dues Editor due other Server = other
     dues Server due other Editor = other
-    dues Server due other Server = due
+    dues _ due other _ = due
 
 module _ (limits : Bounds) (records : List Record) (given due : List Raw) where
   side_stepped : (side : Side) (s : State) (e : decoder.State) (o : Option Due)
@@ -337,9 +333,8 @@ module _ (limits : Bounds) (records : List Record) (given due : List Raw) where
 
 -- what was gone past is one event
 pub one_raw : (s : State) (step : Due) (a b : Raw) → IsRaw s step a → IsRaw s step b → a ≡ b
-one_raw s (next.Content side len) a b p q = p ∙ sym q
-one_raw s (next.Broken side rule) a b p q = p ∙ sym q
 one_raw s next.Snapshot a b p q = let same : a ∷ [] ≡ b ∷ [] = sym p ∙ q in cc
+one_raw s _ a b p q = p ∙ sym q
 
 -- and it is lent
 pub lent : (limits : Bounds) (new : State) (records : List Record) (given due : List Raw)
@@ -360,13 +355,12 @@ module _ (limits : Bounds) (records : List Record) (given : List Raw) where
       subst (IsDue side (decoder_of side s) (joined side records)) (none side s.turn) (h.sides side)
     where
       none : (side : Side) (t : Option PendingEvents) → due_of side t [] ≡ []
-      none side None = refl
       none side (Some (turn.Bytes by)) = by_test (same_side side by)
         where
           by_test : (b : Bool) → (let rs : List Raw = if b then [] else [] in rs) ≡ []
           by_test true = refl
           by_test false = refl
-      none side (Some turn.Snapshot) = refl
+      none side _ = refl
 
   joined_other : (side : Side) (bytes : List ℕ)
       → joined (other_side side) (records ++ chunk side bytes ∷ [])

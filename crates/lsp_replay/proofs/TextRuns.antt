@@ -105,10 +105,8 @@ module _ (n : ℕ) (c : Counts) (before : List Heard) (h : Heard)
     where
       by_own : (b : Bool) → is_of Editor h.note.event ≡ b
           → (b && count_of (is_of Editor) (heard_events before) + 1 == n) ≡ true
-      by_own true is =
-          eq-eqb _ _ (omega (arith, reached, count_is, one_more, own_one is))
-      by_own false is =
-          absurd (omega (arith, earlier, reached, count_is, one_more, own_none is))
+      by_own true is = eq-eqb _ _ (omega (arith, reached, count_is, one_more, own_one is))
+      by_own false is = absurd (omega (arith, earlier, reached, count_is, one_more, own_none is))
 
   pub not_reached : (c.editor ≡ n → ⊥) → (is_reached n before h ≡ false) × (all < n)
   not_reached other = by_own (is_of Editor h.note.event) refl

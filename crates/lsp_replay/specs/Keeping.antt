@@ -12,7 +12,7 @@ use Rattle.lsp_types.specs.declared.change.SyncKind.TheVariants.{Nothing}
 use Rattle.lsp_types.specs.declared.position.Encoding.TheVariants.{Utf16}
 use Rattle.lsp_types.specs.declared.side.Side.{Side}
 use Rattle.lsp_verdict.specs.declared.counts.Counts.{Counts}
-use Rattle.lsp_verdict.specs.Event.{Event, call_at, calls, fault, message, sent_in, snapshot}
+use Rattle.lsp_verdict.specs.Event.{Event, call_at, calls, fault, message, sent_in}
 use Rattle.lsp_verdict.specs.Given.{AreCounts, raw_view}
 use Rattle.lsp_verdict.specs.Placed.{Raw, Reads, ReadsAs}
 use Rattle.lsp_verdict.specs.Verdict.{offence}
@@ -39,17 +39,15 @@ pub record IsRead (events : List Event) (event : Event) (read : ReadEvent) : Typ
 
 -- the event doesn't offend by itself
 abbrev pub IsSound : Event → Type 0
-IsSound (message m) = Unit {0}
 IsSound (fault side rule) = ⊥
-IsSound (snapshot uri number text) = Unit {0}
+IsSound _ = Unit {0}
 
 -- ---- keeping
 
 -- the least rule that the event offends as a message, 301 to 504
 abbrev pub message_rule : List Event → Event → Option ℕ
 message_rule before (message m) = rule_after (sent_in before) m
-message_rule before (fault side rule) = None
-message_rule before (snapshot uri number text) = None
+message_rule before _ = None
 
 -- the event is admitted after these
 abbrev pub IsAdmitted : session.State → List Event → Event → Type 0

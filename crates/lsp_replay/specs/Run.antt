@@ -186,8 +186,7 @@ pub record PartPassed (run : Run) (limits : Bounds) (start now old new : Told) (
 -- **what a pass of this run writes and answers**: all, or after a fault a part
 abbrev pub Passes : Run → Bounds → Told → Told → Told → Told → Result Outcome RunFault → Type 0
 Passes run limits start now old new (Ok outcome) = AllPassed run limits start now old new outcome
-Passes run limits start now old new (Err fault) =
-    PartPassed run limits start now old new fault
+Passes run limits start now old new (Err fault) = PartPassed run limits start now old new fault
 
 -- **the same on these ports**
 abbrev pub PassesOn : Run → Bounds → Ports → Result Outcome RunFault → Type 0

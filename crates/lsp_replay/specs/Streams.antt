@@ -145,8 +145,7 @@ HoldsRecord t s records = Unit {0}
 abbrev pub EndsInLast : State → List Record → Raw → Type 0
 EndsInLast s records (content side bytes) = ((decoder_of side s).fault ≡ None)
     × ((last : List ℕ) × IsLastOf side records last × EndsIn (decoder_of side s) last)
-EndsInLast s records (broken side rule) = Unit {0}
-EndsInLast s records (show number uri text) = Unit {0}
+EndsInLast s records _ = Unit {0}
 
 -- ---- what is due
 

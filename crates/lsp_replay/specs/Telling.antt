@@ -108,8 +108,7 @@ pub record IsSeen (messages : session.State) (documents : docs.State) (counts : 
 -- after these events the bytes that are lent with a content are those at hand behind it; and those
 -- that are lent with a fault of the frames show the header part that has it
 abbrev pub ShowsFault : code.Raw → List Event → Rests → Type 0
-ShowsFault (lent.Content side bytes behind) before rests =
-    behind.now ≡ behind_at rests before side
+ShowsFault (lent.Content side bytes behind) before rests = behind.now ≡ behind_at rests before side
 ShowsFault (lent.Broken side rule rest) before rests =
     header_front rest.now ≡ header_front (rest_of rests side)
 ShowsFault (lent.Snapshot version uri text) before rests = Unit {0}

@@ -82,28 +82,14 @@ apart a b differ same = eqb-false _ _ differ (ap (λ (t : Text). slice_index t 3
 pub no_text : (rows : List Row)
     → ((number : NonZeroU64) (uri : Bor Text) (extent : Extent) → AsksText rows number uri extent → ⊥)
     → (task : Task) → HasTask (codes "text") rows task → ⊥
-no_text rows none (tasks.Check a b form) h = apart _ _ refl h.command
-no_text rows none (tasks.Explain a b form) h = apart _ _ refl h.command
-no_text rows none (tasks.Compared a) h = apart _ _ refl h.command
-no_text rows none (tasks.Show a b form) h = apart _ _ refl h.command
 no_text rows none (tasks.Text number uri extent) h = none number uri extent h.arguments
-no_text rows none (tasks.Event number) h = apart _ _ refl h.command
 no_text rows none (tasks.Rewrite rewrites.Normal) h = apart _ _ refl h.command
-no_text rows none (tasks.Rewrite rewrites.Upgrade) h = apart _ _ refl h.command
-no_text rows none (tasks.Rewrite rewrites.Redact) h = apart _ _ refl h.command
-no_text rows none (tasks.Frames mode) h = apart _ _ refl h.command
+no_text rows none _ h = apart _ _ refl h.command
 
 pub no_event : (rows : List Row) → ((n : ℕ) → GivesNumber rows n → ⊥) → (task : Task) → HasTask (codes "event") rows task → ⊥
-no_event rows none (tasks.Check a b form) h = apart _ _ refl h.command
-no_event rows none (tasks.Explain a b form) h = apart _ _ refl h.command
-no_event rows none (tasks.Compared a) h = apart _ _ refl h.command
-no_event rows none (tasks.Show a b form) h = apart _ _ refl h.command
-no_event rows none (tasks.Text number uri extent) h = apart _ _ refl h.command
 no_event rows none (tasks.Event number) h = none (non_zero_u64_get number) h.arguments
 no_event rows none (tasks.Rewrite rewrites.Normal) h = apart _ _ refl h.command
-no_event rows none (tasks.Rewrite rewrites.Upgrade) h = apart _ _ refl h.command
-no_event rows none (tasks.Rewrite rewrites.Redact) h = apart _ _ refl h.command
-no_event rows none (tasks.Frames mode) h = apart _ _ refl h.command
+no_event rows none _ h = apart _ _ refl h.command
 
 -- ---- what is to be read
 

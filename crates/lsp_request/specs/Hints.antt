@@ -9,12 +9,11 @@ use Rattle.lsp_extract.specs.declared.event.EventOutcome.TheVariants as events
 use Rattle.lsp_request.specs.declared.task_outcome.TaskOutcome.{TaskOutcome}
 use Rattle.lsp_request.specs.declared.task_outcome.TaskOutcome.TheVariants as tasks
 use Rattle.lsp_verdict.specs.declared.outcome.Outcome.{Outcome}
-use Rattle.lsp_verdict.specs.declared.outcome.Outcome.TheVariants.{Done, Judged, Stream, NoDocument}
-use Rattle.lsp_verdict.specs.declared.outcome.Outcome.TheVariants.{NoDifference, TooFew, Unlike}
+use Rattle.lsp_verdict.specs.declared.outcome.Outcome.TheVariants.{Judged, Stream, NoDocument}
 use Rattle.lsp_verdict.specs.declared.outcome.RunFault.{RunFault}
 use Rattle.lsp_verdict.specs.declared.outcome.StreamFault.{StreamFault}
 use Rattle.lsp_verdict.specs.declared.outcome.StreamFault.TheVariants.{Rule, TooLong}
-use Rattle.lsp_verdict.specs.declared.verdict.Verdict.TheVariants.{Yes, No, BadLog}
+use Rattle.lsp_verdict.specs.declared.verdict.Verdict.TheVariants.{BadLog}
 use Rattle.lsp_types.specs.declared.rules.TheConstants as rules
 use Rattle.lsp_request.specs.declared.hint.Hint.{Hint}
 use Rattle.lsp_request.specs.declared.hint.Hint.TheVariants as hints
@@ -119,20 +118,13 @@ fault_hint (suc n) bytes = None
 
 abbrev pub run_hint : Outcome → List ℕ → Option Hint
 run_hint (Judged (BadLog number code)) bytes = fault_hint number bytes
-run_hint (Judged (Yes s)) bytes = None
-run_hint (Judged (No rule who number event)) bytes = None
 run_hint (Stream frame fault) bytes = stream_hint frame fault bytes
-run_hint Done bytes = None
 run_hint NoDocument bytes = Some hints.OtherDocuments
-run_hint TooFew bytes = None
-run_hint NoDifference bytes = None
-run_hint Unlike bytes = None
+run_hint _ bytes = None
 
 abbrev pub event_hint : EventOutcome → List ℕ → Option Hint
 event_hint (events.BadLog number code) bytes = fault_hint number bytes
-event_hint events.Done bytes = None
-event_hint events.NoContent bytes = None
-event_hint events.FewerEvents bytes = None
+event_hint _ bytes = None
 
 -- what an input seems to be, where a task ended so on it
 abbrev pub hint_of : Result TaskOutcome RunFault → List ℕ → Option Hint

@@ -8,14 +8,14 @@ use Rattle.lsp_extract.specs.declared.event.EventOutcome.TheVariants as events
 use Rattle.lsp_request.specs.declared.task_outcome.TaskOutcome.{TaskOutcome}
 use Rattle.lsp_request.specs.declared.task_outcome.TaskOutcome.TheVariants as tasks
 use Rattle.lsp_verdict.specs.declared.outcome.Outcome.{Outcome}
-use Rattle.lsp_verdict.specs.declared.outcome.Outcome.TheVariants.{Done, Judged, Stream, NoDocument}
+use Rattle.lsp_verdict.specs.declared.outcome.Outcome.TheVariants.{Judged, Stream, NoDocument}
 use Rattle.lsp_verdict.specs.declared.outcome.Outcome.TheVariants.{NoDifference, TooFew, Unlike}
 use Rattle.lsp_verdict.specs.declared.outcome.RunFault.{RunFault}
 use Rattle.lsp_verdict.specs.declared.outcome.RunFault.TheVariants.{Read, Write, Memory}
 use Rattle.lsp_verdict.specs.declared.verdict.Verdict.{Verdict}
 use Rattle.lsp_verdict.specs.declared.verdict.Verdict.TheVariants.{Yes}
 use Rattle.lsp_request.specs.declared.command_line.task.Task.{Task}
-use Rattle.lsp_request.specs.declared.command_line.task.Rewrite.TheVariants.{Normal, Redact, Upgrade}
+use Rattle.lsp_request.specs.declared.command_line.task.Rewrite.TheVariants.{Upgrade}
 use Rattle.lsp_request.specs.declared.command_line.task.Task.TheVariants.{Compared, Frames, Rewrite}
 use Rattle.lsp_request.specs.declared.command_line.task.Task.TheVariants.{Text}
 
@@ -27,13 +27,9 @@ remark_of (Ok (tasks.Run NoDifference)) =
     Some (codes "no texts differ: the verdict is neither 608 nor 702")
 remark_of (Ok (tasks.Run Unlike)) =
     Some (codes "this log can't be redacted: without its words it has another verdict")
-remark_of (Ok (tasks.Run Done)) = None
-remark_of (Ok (tasks.Run (Judged v))) = None
-remark_of (Ok (tasks.Run (Stream frame fault))) = None
 remark_of (Ok (tasks.Event events.NoContent)) = Some (codes "no content")
 remark_of (Ok (tasks.Event events.FewerEvents)) = Some (codes "fewer events")
-remark_of (Ok (tasks.Event events.Done)) = None
-remark_of (Ok (tasks.Event (events.BadLog number fault))) = None
+remark_of (Ok _) = None
 remark_of (Err Read) = Some (codes "lspcheck: read fault")
 remark_of (Err Write) = Some (codes "lspcheck: write fault")
 remark_of (Err Memory) = Some (codes "lspcheck: out of memory")
@@ -49,9 +45,8 @@ report_refused v = Some (report (verdict_view v))
 abbrev pub run_report_apart : Task → Outcome → Option (List ℕ)
 run_report_apart (Text number uri extent) (Judged v) = Some (report (verdict_view v))
 run_report_apart (Compared which) (Judged v) = Some (report (verdict_view v))
-run_report_apart (Rewrite Normal) (Judged v) = Some (report (verdict_view v))
 run_report_apart (Rewrite Upgrade) (Judged v) = report_refused v
-run_report_apart (Rewrite Redact) (Judged v) = Some (report (verdict_view v))
+run_report_apart (Rewrite rewrite) (Judged v) = Some (report (verdict_view v))
 run_report_apart (Frames Canonical) (Stream frame fault) = Some (stream_report frame fault)
 run_report_apart task outcome = None
 

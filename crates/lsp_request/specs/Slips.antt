@@ -10,21 +10,13 @@ use Rattle.lsp_request.specs.declared.command_line.task.Task.TheVariants as task
 
 -- the word after the program's name, if no other follows
 abbrev pub only_word : List Text → Option Text
-only_word [] = None
-only_word (program ∷ []) = None
 only_word (program ∷ word ∷ []) = Some word
-only_word (program ∷ word ∷ other ∷ words) = None
+only_word _ = None
 
 -- the URI whose document a task asks for
 abbrev pub uri_of : Task → Option Text
 uri_of (tasks.Text number uri extent) = Some uri.now
-uri_of (tasks.Check completeness report form) = None
-uri_of (tasks.Explain completeness explanation form) = None
-uri_of (tasks.Compared which) = None
-uri_of (tasks.Show lines extent form) = None
-uri_of (tasks.Event number) = None
-uri_of (tasks.Rewrite rewrite) = None
-uri_of (tasks.Frames mode) = None
+uri_of _ = None
 
 -- the URI whose document a request asks for, if it reads standard input
 abbrev pub uri_alone : Request → Option Text

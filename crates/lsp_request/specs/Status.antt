@@ -54,17 +54,11 @@ status_of_task (Err fault) = status_of_fault fault
 -- a log was judged, and the verdict is a Yes for which no snapshot was compared
 abbrev pub outcome_compared_nothing : Outcome → Bool
 outcome_compared_nothing (Judged v) = compared_nothing (verdict_view v)
-outcome_compared_nothing Done = false
-outcome_compared_nothing (Stream frame fault) = false
-outcome_compared_nothing NoDocument = false
-outcome_compared_nothing TooFew = false
-outcome_compared_nothing NoDifference = false
-outcome_compared_nothing Unlike = false
+outcome_compared_nothing _ = false
 
 abbrev pub task_compared_nothing : Result TaskOutcome RunFault → Bool
 task_compared_nothing (Ok (tasks.Run outcome)) = outcome_compared_nothing outcome
-task_compared_nothing (Ok (tasks.Event outcome)) = false
-task_compared_nothing (Err fault) = false
+task_compared_nothing _ = false
 
 -- the request wants a snapshot compared, and for the Yes that its task gave none was
 abbrev pub lacks_comparison : Request → Result TaskOutcome RunFault → Bool
@@ -72,8 +66,7 @@ lacks_comparison request ended = request.compared && task_compared_nothing ended
 
 -- **the status of a request**: that of its task, but 1 for a Yes that lacks a comparison
 abbrev pub status_of_request : Request → Result TaskOutcome RunFault → ℕ
-status_of_request request ended =
-    if lacks_comparison request ended then 1 else status_of_task ended
+status_of_request request ended = if lacks_comparison request ended then 1 else status_of_task ended
 
 -- where the words ask for no run: 0 for help and the version, 4 out of memory, 64 where they don't
 -- parse

@@ -7,9 +7,8 @@ use Rattle.lsp_rpc.specs.Laws.{SameIdIsEquality}
 
 pub same_id-true : (a b : Ident) → same_id a b ≡ true → a ≡ b
 same_id-true (number a) (number b) h = ap number ((Decides-int_eq a b).0 h)
-same_id-true (number a) (text t) h = absurd (true≢false (sym h))
-same_id-true (text s) (number b) h = absurd (true≢false (sym h))
 same_id-true (text s) (text t) h = ap text ((bytes_eq-Decides s t).0 h)
+same_id-true _ _ h = absurd (true≢false (sym h))
 
 pub same_id-refl : (a : Ident) → same_id a a ≡ true
 same_id-refl (number a) = (Decides-int_eq a a).1 refl

@@ -5,7 +5,5 @@ use Rattle.lsp_rpc.specs.Outline.{outline}
 use Rattle.lsp_rpc.specs.Words.{words_of}
 
 pub words_by_outline : (m : Message) → words_of m ≡ words_of (outline m)
-words_by_outline (request id method params) = refl
-words_by_outline (notification method params) = refl
 words_by_outline (response id (result value)) = refl
-words_by_outline (response id (error code)) = refl
+words_by_outline _ = refl

@@ -71,21 +71,12 @@ editor_rows : (exited response an_exit an_initialize done empty shutdown initial
     ∷ ((not response && an_initialized) && done, Some 404)
     ∷ (not response && done, None)
     ∷ [])
-editor_rows true response an_exit an_initialize done empty shutdown initialized an_initialized =
-    refl
-editor_rows false true an_exit an_initialize done empty shutdown initialized an_initialized = refl
-editor_rows false false true an_initialize done empty shutdown initialized an_initialized = refl
 editor_rows false false false true false true shutdown initialized an_initialized = refl
-editor_rows false false false true false false shutdown initialized an_initialized = refl
 editor_rows false false false true true empty true initialized an_initialized = refl
-editor_rows false false false true true empty false initialized an_initialized = refl
 editor_rows false false false false false true shutdown initialized an_initialized = refl
-editor_rows false false false false false false shutdown initialized an_initialized = refl
-editor_rows false false false false true empty true initialized an_initialized = refl
 editor_rows false false false false true empty false true true = refl
-editor_rows false false false false true empty false true false = refl
 editor_rows false false false false true empty false false true = refl
-editor_rows false false false false true empty false false false = refl
+editor_rows _ _ _ _ _ _ _ _ _ = refl
 
 server_rows : (response done empty early reports : Bool)
     → first_row {X = ℕ} (
@@ -101,15 +92,10 @@ server_rows : (response done empty early reports : Bool)
     ∷ (not response && (not done && not empty), Some 412)
     ∷ (not response && done, None)
     ∷ [])
-server_rows true done empty early reports = refl
 server_rows false true empty true true = refl
-server_rows false true empty true false = refl
 server_rows false true empty false true = refl
-server_rows false true empty false false = refl
-server_rows false false true early reports = refl
-server_rows false false false true reports = refl
 server_rows false false false false true = refl
-server_rows false false false false false = refl
+server_rows _ _ _ _ _ = refl
 
 lifecycle_rule-state_of : (before : List Sent) (side : Side) (message : Message) (act : Act)
     → by_state.lifecycle_rule (state_of before) side message act ≡ lifecycle_rule before (record {
@@ -148,15 +134,13 @@ shape_at picked = if is_some picked then None else Some 501
 early-parts : (ids lifecycle : Option ℕ) (settled : Option Settled) (register : Option ℕ)
     → option_or ids (option_or lifecycle (option_or (settled_rule settled) register)) ≡ None
     → option_or ids (option_or lifecycle (shape_rule settled register)) ≡ None
-early-parts (Some n) lifecycle settled register none = none
-early-parts None (Some n) settled register none = none
-early-parts None None None register none = none
 early-parts None None (Some s) register none = shaped s.offer (picked_at s.value) register none
   where
     shaped : (offer : Offer) (picked : Option Picked) (other : Option ℕ)
         → option_or (pick_rule offer picked) other ≡ None → shape_at picked ≡ None
     shaped offer None other none = none
     shaped offer (Some picked) other none = refl
+early-parts _ _ _ register none = none
 
 -- a message that breaks no rule breaks none of the early ones
 pub early-none : (before : List Sent) (m : Sent) → rule_after before m ≡ None

@@ -85,12 +85,11 @@ answers-parts side (Some q) between m h = record {
 one_side : (a b s : Side) (message : Message) (x y : Ident)
     → names (answered_from a s message) x ≡ true → names (answered_from b s message) y ≡ true
     → a ≡ b
-one_side Editor Editor s message x y h k = refl
-one_side Server Server s message x y h k = refl
 one_side Editor Server Editor message x y h k = absurd (true≢false (sym h))
 one_side Editor Server Server message x y h k = absurd (true≢false (sym k))
 one_side Server Editor Editor message x y h k = absurd (true≢false (sym k))
 one_side Server Editor Server message x y h k = absurd (true≢false (sym h))
+one_side _ _ s message x y h k = refl
 
 one_id : (c : Option Ident) (x y : Ident) → names c x ≡ true → names c y ≡ true → x ≡ y
 one_id None x y h k = absurd (true≢false (sym h))
@@ -104,8 +103,7 @@ not_open : (own other : List Entry) (message : Message) (r : Ident × List ℕ)
     → request_of message ≡ Some r → id_rule own other message ≡ None → has_id r.0 own ≡ false
 not_open own other (request id method params) r is h =
     subst (λ q. has_id q.0 own ≡ false) (same_Some _ _ is) (if_none (has_id id own) 302 h)
-not_open own other (notification method params) r is h = absurd (true≢false (sym (ap is_some is)))
-not_open own other (response id reply) r is h = absurd (true≢false (sym (ap is_some is)))
+not_open own other _ r is h = absurd (true≢false (sym (ap is_some is)))
 
 pub answers_no_other : AnswersNoOther
 answers_no_other before first between second after m admitted h =
@@ -248,10 +246,9 @@ open_found history m id h own =
       where
         go : (side by : Side) (found : Option (Ident × List ℕ))
             → (if same_side side by then found else None) ≡ Some r → by ≡ side
-        go Editor Editor found h = refl
-        go Server Server found h = refl
         go Editor Server found h = absurd (true≢false (sym (ap is_some h)))
         go Server Editor found h = absurd (true≢false (sym (ap is_some h)))
+        go _ _ found h = refl
 
     asked_message : (side : Side) (a : Sent) (r : Ident × List ℕ) → request_by side a ≡ Some r
         → request_of a.message ≡ Some r
@@ -270,8 +267,6 @@ open_found history m id h own =
 rule_found : (history : List Sent) (m : Sent) (message : Message)
     → id_rule (open_requests m.side history) (open_requests (other_side m.side) history) message
     ≡ None → is_response message ≡ true → m.message ≡ message → AnsweredRequest history m
-rule_found history m (request id method params) h k own = absurd (true≢false (sym k))
-rule_found history m (notification method params) h k own = absurd (true≢false (sym k))
 rule_found history m (response None reply) h k own = absurd (true≢false (ap is_some h))
 rule_found history m (response (Some id) reply) h k own =
     open_found history m id (unless_none (has_id id (open_requests (other_side m.side) history)) 301
@@ -280,6 +275,7 @@ rule_found history m (response (Some id) reply) h k own =
     unless_none : (b : Bool) (rule : ℕ) → (if b then None else Some rule) ≡ None → b ≡ true
     unless_none true rule h = refl
     unless_none false rule h = absurd (true≢false (ap is_some h))
+rule_found history m _ h k own = absurd (true≢false (sym k))
 
 pub answers_a_request : AnswersARequest
 answers_a_request history m rule k =

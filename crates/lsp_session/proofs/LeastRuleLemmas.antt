@@ -42,10 +42,9 @@ ids_within : (own other : List Entry) (message : Message)
     → is_within 301 302 (id_rule own other message) ≡ true
 ids_within own other (request id method params) =
     if_within 301 302 (has_id id own) (Some 302) None refl refl
-ids_within own other (notification method params) = refl
-ids_within own other (response None reply) = refl
 ids_within own other (response (Some id) reply) =
     if_within 301 302 (has_id id other) None (Some 301) refl refl
+ids_within own other _ = refl
 
 abbrev all_within : ℕ → ℕ → List Row → Bool
 all_within low high [] = true

@@ -43,16 +43,12 @@ module _ (before : List Sent) (side : Side) (act : Act) where
 
   module _ (none : open_initializes before ≡ []) where
     rule_without_result : (m : Message) → RuleOf m ≡ RuleOf (without_result m)
-    rule_without_result (request id method params) = refl
-    rule_without_result (notification method params) = refl
-    rule_without_result (response id (error code)) = refl
     rule_without_result (response id (result value)) = rw none
+    rule_without_result _ = refl
 
     state_without_result : (m : Message) → StateAfter m ≡ StateAfter (without_result m)
-    state_without_result (request id method params) = refl
-    state_without_result (notification method params) = refl
-    state_without_result (response id (error code)) = refl
     state_without_result (response id (result value)) = rw none
+    state_without_result _ = refl
 
 pub params_unread : ParamsUnread
 params_unread before side act a b same =

@@ -103,6 +103,5 @@ next s m = record {
 abbrev pub after_answer : State → Ident → State
 after_answer s id = record s {
   editor = without id s.editor;
-  initializes =
-      without_initialize id s.initializes;
+  initializes = without_initialize id s.initializes;
 }

@@ -20,9 +20,8 @@ abbrev full : Bool → ℕ
 full b = cond b 255 0
 
 unlike_lanes : (a b : List ℕ) → zip2 unlike a b ≡ map full (zip2 differs a b)
-unlike_lanes [] ys = refl
-unlike_lanes (a ∷ xs) [] = refl
 unlike_lanes (a ∷ xs) (b ∷ ys) = ap (λ l. full (differs a b) ∷ l) (unlike_lanes xs ys)
+unlike_lanes _ _ = refl
 
 either : (p q : Bool) → bit_or (full p) (full q) ≡ full (p || q)
 either true true = refl
@@ -31,9 +30,8 @@ either false true = refl
 either false false = refl
 
 either_lanes : (p q : List Bool) → zip2 bit_or (map full p) (map full q) ≡ map full (zip2 (λ a b. a || b) p q)
-either_lanes [] qs = refl
-either_lanes (p ∷ ps) [] = refl
 either_lanes (p ∷ ps) (q ∷ qs) = ap₂ (λ x l. x ∷ l) (either p q) (either_lanes ps qs)
+either_lanes _ _ = refl
 
 top_full : (p : Bool) → top 7 (full p) ≡ p
 top_full true = refl
@@ -47,8 +45,6 @@ tops (p ∷ ps) = ap₂ (λ x l. x ∷ l) (top_full p) (tops ps)
 none_either : (p q : List Bool) → length p ≡ length q
     → (mask_l (zip2 (λ a b. a || b) p q) ≡ 0) ↔ ((mask_l p ≡ 0) × (mask_l q ≡ 0))
 none_either [] [] e = (λ _. (refl, refl), λ _. refl)
-none_either [] (q ∷ qs) e = absurd (omega (arith, e))
-none_either (p ∷ ps) [] e = absurd (omega (arith, e))
 none_either (true ∷ ps) (q ∷ qs) e = (λ z. absurd (omega (arith, z)), λ z. absurd (omega (arith, z.0)))
 none_either (false ∷ ps) (true ∷ qs) e = (λ z. absurd (omega (arith, z)), λ z. absurd (omega (arith, z.1)))
 none_either (false ∷ ps) (false ∷ qs) e =
@@ -56,6 +52,7 @@ none_either (false ∷ ps) (false ∷ qs) e =
       λ z. let both = rest.0 (omega (arith, z)) in (omega (arith, both.0), omega (arith, both.1)),
       λ z. let none = rest.1 (omega (arith, z.0), omega (arith, z.1)) in omega (arith, none),
     )
+none_either _ _ e = absurd (omega (arith, e))
 
 both_pairs : (r : Bool) (a b : ℕ) (xs ys : List ℕ) (m : ℕ) → Decides r (a ≡ b)
     → (m ≡ 0) ↔ (xs ≡ ys) → (cond (not r) 1 0 + 2 * m ≡ 0) ↔ (a ∷ xs ≡ b ∷ ys)
@@ -71,10 +68,9 @@ both_pairs false a b xs ys m same rest = (
 -- no bit where two vectors are the same
 none_differs : (a b : List ℕ) → length a ≡ length b → (mask_l (zip2 differs a b) ≡ 0) ↔ (a ≡ b)
 none_differs [] [] e = (λ _. refl, λ _. refl)
-none_differs [] (b ∷ ys) e = absurd (omega (arith, e))
-none_differs (a ∷ xs) [] e = absurd (omega (arith, e))
 none_differs (a ∷ xs) (b ∷ ys) e =
     both_pairs (eqb a b) a b xs ys _ (Decides-eqb a b) (none_differs xs ys (omega (arith, e)))
+none_differs _ _ e = absurd (omega (arith, e))
 
 -- ---- one vector beside another
 

@@ -100,8 +100,7 @@ pair_behind enc bs width at behind more h some is =
 -- a byte that goes on with a character brings nothing
 inside_byte : (enc : Encoding) (x : ℕ) → enc ≢ Utf8 → 128 ≤ x → x < 192 → byte_units enc x ≡ 0
 inside_byte Utf8 x wide low high = absurd (wide refl)
-inside_byte Utf16 x wide low high = grind (arith, nat_tests)
-inside_byte Utf32 x wide low high = grind (arith, nat_tests)
+inside_byte _ x wide low high = grind (arith, nat_tests)
 
 pub byte_passed : (enc : Encoding) (bs : List ℕ) (column at left : ℕ) → enc ≢ Utf8
     → IsPassed enc bs column at left → at < length bs → 128 ≤ get_or bs at 0 → get_or bs at 0 < 192

@@ -175,8 +175,7 @@ byte_few f bs at k n m few le lt e is =
 -- where all bytes are ASCII, each brings one unit
 ascii_byte : (enc : Encoding) (x : ℕ) → x < 128 → byte_units enc x ≡ 1
 ascii_byte Utf8 x lt = refl
-ascii_byte Utf16 x lt = grind (arith, nat_tests)
-ascii_byte Utf32 x lt = grind (arith, nat_tests)
+ascii_byte _ x lt = grind (arith, nat_tests)
 
 one_below : (x n m : ℕ) → cond (ltb x 128) 1 0 + n ≡ 1 + m → n ≤ m → (x < 128) × (n ≡ m)
 one_below x n m e le = (grind (arith, nat_tests), grind (arith, nat_tests))

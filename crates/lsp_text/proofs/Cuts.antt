@@ -43,9 +43,8 @@ before_line-before_line cs ds (l ∷ ls) = ap (λ x. let m : Line = record { tex
 
 -- what a text with no line end inside says of its first character
 pub whole_parts : (f r n : Bool) → cond (f || r) false n ≡ true → (f ≡ false) × (r ≡ false) × (n ≡ true)
-whole_parts true r n h = absurd (false≢true h)
-whole_parts false true n h = absurd (false≢true h)
 whole_parts false false n h = (refl, refl, h)
+whole_parts _ _ n h = absurd (false≢true h)
 
 pub put_before-other : (c : ℕ) (rest : List ℕ) (ls : List Line) → is_feed c ≡ false → is_return c ≡ false → put_before c rest ls ≡ before_line (c ∷ []) ls
 put_before-other c rest ls f r = cond-false _ _ _ f ∙ cond-false _ _ _ r

@@ -137,25 +137,23 @@ same_at : (x y : List ℕ) (ls ms : List (List ℕ)) → has_no_line_end x ≡ t
     → has_no_line_end y ≡ true → (more_lines ls ≡ more_lines ms → ls ≡ ms)
     → x ++ more_lines ls ≡ y ++ more_lines ms → (x ≡ y) × (ls ≡ ms)
 same_at [] [] ls ms h k same e = (refl, same e)
-same_at [] (d ∷ y) [] ms h k same e = absurd (cc)
 same_at [] (d ∷ y) (l ∷ ls) ms h k same e = absurd (no_feed d y k (let is : d ≡ 10 = cc in is))
-same_at (c ∷ x) [] ls [] h k same e = absurd (cc)
 same_at (c ∷ x) [] ls (m ∷ ms) h k same e = absurd (no_feed c x h (let is : c ≡ 10 = cc in is))
 same_at (c ∷ x) (d ∷ y) ls ms h k same e =
     let first : c ≡ d = cc in
     let more : x ++ more_lines ls ≡ y ++ more_lines ms = cc in
     let rest = same_at x y ls ms (tail_free c x h) (tail_free d y k) same more in
     (ap (λ (n : ℕ). n ∷ x) first ∙ ap (λ (z : List ℕ). d ∷ z) rest.0, rest.1)
+same_at _ _ _ _ h k same e = absurd (cc)
 
 same_more : (ls ms : List (List ℕ)) → AreFree ls → AreFree ms → more_lines ls ≡ more_lines ms
     → ls ≡ ms
 same_more [] [] h k e = refl
-same_more [] (m ∷ ms) h k e = absurd (cc)
-same_more (l ∷ ls) [] h k e = absurd (cc)
 same_more (l ∷ ls) (m ∷ ms) h k e =
     let more : l ++ more_lines ls ≡ m ++ more_lines ms = cc in
     let parts = same_at l m ls ms h.0 k.0 (same_more ls ms h.1 k.1) more in
     ap (λ (x : List ℕ). x ∷ ls) parts.0 ∙ ap (λ (xs : List (List ℕ)). m ∷ xs) parts.1
+same_more _ _ h k e = absurd (cc)
 
 -- what is compared of a text, by its lines
 counted : (t : List ℕ) (h : HasLines t)

@@ -182,8 +182,7 @@ end_cases (c ∷ []) = by (is_feed c) refl
     by true is = inl (record {
       front = [];
       is = ap (λ (x : ℕ). x ∷ []) (is_ten c is);
-      without =
-          rw is refl;
+      without = rw is refl;
     })
     by false is = inr (record { otherwise = λ front e. other front is e; without = rw is refl })
 end_cases (c ∷ d ∷ x) = by (end_cases (d ∷ x))
@@ -199,13 +198,11 @@ end_cases (c ∷ d ∷ x) = by (end_cases (d ∷ x))
     by (inl h) = inl (record {
       front = c ∷ h.front;
       is = ap (λ (l : List ℕ). c ∷ l) h.is;
-      without =
-          more ∙ ap (λ (l : List ℕ). c ∷ l) h.without;
+      without = more ∙ ap (λ (l : List ℕ). c ∷ l) h.without;
     })
     by (inr h) = inr (record {
       otherwise = λ front e. other front h.otherwise e;
-      without =
-          more ∙ ap (λ (l : List ℕ). c ∷ l) h.without;
+      without = more ∙ ap (λ (l : List ℕ). c ∷ l) h.without;
     })
 
 -- ---- where a text ends with a line end
@@ -248,8 +245,7 @@ ends_mark (c ∷ []) front e = by (is_return c) refl
     by true is = inr (record { before = []; text = ap (λ (x : ℕ). x ∷ []) (is_thirteen c is) })
     by false is = inl (record {
       before = [];
-      text =
-          ap (λ (x : ℕ). x ∷ []) (one front (sym (with_feeds-other c [] is) ∙ e));
+      text = ap (λ (x : ℕ). x ∷ []) (one front (sym (with_feeds-other c [] is) ∙ e));
     })
 ends_mark (c ∷ d ∷ t) front e = by (ends_mark (d ∷ t)) (is_return c && is_feed d) front e
   where

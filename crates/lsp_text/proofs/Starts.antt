@@ -134,10 +134,9 @@ lanes_fit f v lanes long is few =
 -- the lanes of two vectors, each with at most 2, added
 added_fit : (f : ℕ → ℕ) → ((x : ℕ) → f x ≤ 2) → (v w : List ℕ)
     → Each2 (λ a b. Fits w8 (a + b)) (map f v) (map f w)
-added_fit f small [] w = tt
-added_fit f small (x ∷ xs) [] = tt
 added_fit f small (x ∷ xs) (y ∷ ys) =
     (record { fits = omega (arith, small x, small y) }, added_fit f small xs ys)
+added_fit f small _ _ = tt
 
 pub both_utf16_fit : (v w a b : List ℕ) → a ≡ map (byte_units Utf16) v → b ≡ map (byte_units Utf16) w
     → Each2 (λ a b. Fits w8 (a + b)) a b

@@ -84,8 +84,7 @@ is_no_other sent units = int_lt sent (pos 0) || int_eq sent (pos units)
 
 -- the same where this is another length than that of the text
 abbrev pub other_length : Encoding → List ℕ → ℤ → Option OtherLength
-other_length enc t sent =
-    if is_no_other sent (units enc t) then None else Some (lengths_of t sent)
+other_length enc t sent = if is_no_other sent (units enc t) then None else Some (lengths_of t sent)
 
 abbrev pub length_of : Encoding → List ℕ → Option ℤ → Option OtherLength
 length_of enc t sent = option_and_then (other_length enc t) sent

@@ -23,8 +23,7 @@ is_nothing (c ∷ cs) = false
 -- a text without the LF at its end, where there is one
 abbrev pub without_last_feed : List ℕ → List ℕ
 without_last_feed [] = []
-without_last_feed (c ∷ cs) =
-    cond (is_feed c && is_nothing cs) [] (c ∷ without_last_feed cs)
+without_last_feed (c ∷ cs) = cond (is_feed c && is_nothing cs) [] (c ∷ without_last_feed cs)
 
 -- what of a text is compared. Where line ends are ignored, that is its lines, with a LF between
 -- them: a line end at the end of the text begins no line
@@ -74,8 +73,7 @@ no_more (l ∷ ls) = false
 
 abbrev pub without_empty_last : List (List ℕ) → List (List ℕ)
 without_empty_last [] = []
-without_empty_last (l ∷ ls) =
-    cond (is_nothing l && no_more ls) [] (l ∷ without_empty_last ls)
+without_empty_last (l ∷ ls) = cond (is_nothing l && no_more ls) [] (l ∷ without_empty_last ls)
 
 -- those that count: all but the last, where that is empty and comes after others
 abbrev pub that_count : List (List ℕ) → List (List ℕ)

@@ -40,11 +40,9 @@ module _ {X : Type 0} where
 
   pub get-set_other : (xs : List X) (i j : ℕ) (x : X) → (j ≡ i → ⊥)
       → slice_get (slice_set xs i x) j ≡ slice_get xs j
-  get-set_other [] i j x h = refl
   get-set_other (y ∷ xs) zero zero x h = absurd (h refl)
-  get-set_other (y ∷ xs) zero (suc j) x h = refl
-  get-set_other (y ∷ xs) (suc i) zero x h = refl
   get-set_other (y ∷ xs) (suc i) (suc j) x h = get-set_other xs i j x (λ e. h (ap suc e))
+  get-set_other _ _ _ x h = refl
 
   pub get-last : (xs : List X) (x : X) → slice_get (xs ++ x ∷ []) (length xs) ≡ Some x
   get-last [] x = refl
@@ -66,9 +64,8 @@ module _ {X : Type 0} where
 
   get-take : (n : ℕ) (xs : List X) (i : ℕ) → i < n → slice_get (take n xs) i ≡ slice_get xs i
   get-take zero xs i h = absurd (omega (arith, h))
-  get-take (suc n) [] i h = refl
-  get-take (suc n) (x ∷ xs) zero h = refl
   get-take (suc n) (x ∷ xs) (suc i) h = get-take n xs i (omega (arith, h))
+  get-take (suc n) _ _ h = refl
 
   -- the last item takes the place of the one that leaves
   pub get-swapped : (xs : List X) (i : ℕ) (d : X) → i + 1 < length xs
@@ -133,10 +130,9 @@ places-length (Some place ∷ slots) = omega (arith, places-length slots)
 -- all slots are full
 pub place-full : (slots : List (Option ℕ)) (i : ℕ) → length (places_in slots) ≡ length slots
     → option_and_then (λ place. place) (slice_get slots i) ≡ slice_get (places_in slots) i
-place-full [] i h = refl
 place-full (None ∷ slots) i h = absurd (omega (arith, places-length slots, h))
-place-full (Some place ∷ slots) zero h = refl
 place-full (Some place ∷ slots) (suc i) h = place-full slots i (omega (arith, h))
+place-full _ _ h = refl
 
 -- a place in a slot is one of the places, and each of them is in a slot
 pub among : (slots : List (Option ℕ)) (slot place : ℕ) → slice_get slots slot ≡ Some (Some place)

@@ -161,8 +161,6 @@ at_hand side (shown number uri text ∷ before) more front rest n some is =
 pub own_count : (side : Side) (raws : List Raw) (notes : List Noted) → AllZip IsNoted raws notes
     → count_of (is_of side) (events_of notes) ≡ length (filter (is_own side) raws)
 own_count side [] [] all = refl
-own_count side [] (n ∷ notes) all = absurd all
-own_count side (raw ∷ raws) [] all = absurd all
 own_count side (raw ∷ raws) (n ∷ notes) all =
     by_test (is_of side n.event) (is_own side raw) (own_read side raw n.event all.0.0)
     (own_count side raws notes all.1)
@@ -174,5 +172,5 @@ own_count side (raw ∷ raws) (n ∷ notes) all =
         ≡ length (if c then raw ∷ filter (is_own side) raws else filter (is_own side) raws)
     by_test true true same rest = ap suc rest
     by_test false false same rest = rest
-    by_test true false same rest = absurd cc
-    by_test false true same rest = absurd cc
+    by_test _ _ same rest = absurd cc
+own_count side _ _ all = absurd all

@@ -86,14 +86,12 @@ lack_no events v is =
 -- of nothing else
 pub completed_other : (events : List Event) (v : Verdict) → ((s : Summary) → v ≡ yes s → ⊥) → completed events v ≡ v
 completed_other events (yes s) is_other = absurd (is_other s refl)
-completed_other events (no rule by number event) is_other = refl
-completed_other events (bad_log number code) is_other = refl
+completed_other events _ is_other = refl
 
 -- and only where something lacks
 pub completed_none : (events : List Event) (v : Verdict) → lack_of events ≡ None → completed events v ≡ v
 completed_none events (yes s) none = ap (λ o. unwrap_or o (yes s)) none
-completed_none events (no rule by number event) none = refl
-completed_none events (bad_log number code) none = refl
+completed_none events _ none = refl
 
 pub completed_yes : (events : List Event) (v : Verdict) (s : Summary) → completed events v ≡ yes s → (v ≡ yes s) × (lack_of events ≡ None)
 completed_yes events (yes t) s e = by_lack (lack_of events) refl e
@@ -101,8 +99,7 @@ completed_yes events (yes t) s e = by_lack (lack_of events) refl e
     by_lack : (o : Option Verdict) → lack_of events ≡ o → unwrap_or o (yes t) ≡ yes s → (yes t ≡ yes s) × (lack_of events ≡ None)
     by_lack None is said = (said, is)
     by_lack (Some w) is said = absurd (subst IsNo said (lack_no events w is))
-completed_yes events (no rule by number event) s e = absurd cc
-completed_yes events (bad_log number code) s e = absurd cc
+completed_yes events _ s e = absurd cc
 
 pub completed_no : (events : List Event) (v : Verdict) (rule : ℕ) (by : Who) (number event : ℕ) → completed events v ≡ no rule by number event
     → (v ≡ no rule by number event) ⊎ ((s : Summary) × (v ≡ yes s) × (lack_of events ≡ Some (no rule by number event)))

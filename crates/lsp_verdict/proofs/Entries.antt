@@ -37,9 +37,8 @@ pub record HasRecords (limits : Bounds) (start now : Told) (format : Option Form
   pub failures : now.failures ≡ start.failures
 
 abbrev at_end : Option (List ℕ) → Bool
-at_end None = true
-at_end (Some []) = true
 at_end (Some (b ∷ bs)) = false
+at_end _ = true
 
 end_met : (left : Option (List ℕ)) → at_end left ≡ true → IsAtEnd left
 end_met None e = tt
@@ -47,9 +46,8 @@ end_met (Some []) e = refl
 end_met (Some (b ∷ bs)) e = absurd cc
 
 is_met : (left : Option (List ℕ)) → IsAtEnd left → at_end left ≡ true
-is_met None p = refl
-is_met (Some []) p = refl
 is_met (Some (b ∷ bs)) p = absurd cc
+is_met _ p = refl
 
 -- what holds of the stream, whatever may follow the bytes read, holds of the log read
 of_bytes : (limits : Bounds) (start now : Told) (bytes : List ℕ) (P : List ℕ → Type 0) → Gave start now bytes → length bytes ≤ limits.log + 1 → ((more : List ℕ) → MayFollow now more → P (bytes ++ more)) → OfRead limits start now P

@@ -121,9 +121,8 @@ weight_few (r ∷ records) = omega (arith, weight_next r records, weight_few rec
 
 pub read_one : (raws : List Raw) (events : List Event) → AllZip Reads raws events → length raws ≡ length events
 read_one [] [] p = refl
-read_one [] (e ∷ es) p = absurd p
-read_one (raw ∷ raws) [] p = absurd p
 read_one (raw ∷ raws) (e ∷ es) p = omega (arith, read_one raws es p.1)
+read_one _ _ p = absurd p
 
 -- a log has no more events than bytes
 pub raws_few : (limits : Bounds) (format : Format) (log : List ℕ) (records : List Record) (rest : List ℕ) (raws : List Raw) → BeginsLog limits format log records rest → Placed limits records raws → length raws ≤ limits.log
@@ -158,10 +157,7 @@ one_entry false = omega arith
 
 entry_few : (terms : Terms) (before : List Call) (c : Call) (after : List Call) → unmatched_entry terms before c after ≤ 1
 entry_few terms before (shows uri number t) after = one_entry (is_compared terms before uri number after)
-entry_few terms before (opens u n t) after = omega arith
-entry_few terms before (changes enc kind u n cs) after = omega arith
-entry_few terms before (closes u) after = omega arith
-entry_few terms before (saves u t) after = omega arith
+entry_few terms before _ after = omega arith
 
 pub unmatched_few : (terms : Terms) (before made : List Call) → unmatched_in terms before made ≤ length made
 unmatched_few terms before [] = omega arith

@@ -148,10 +148,9 @@ splits (x ∷ xs) a ys (u ∷ us) b bs e =
 -- splits after as many elements are one
 pub same_split : {A : Type 0} (xs us ys bs : List A) → length xs ≡ length us → xs ++ ys ≡ us ++ bs → (xs ≡ us) × (ys ≡ bs)
 same_split [] [] ys bs len e = (refl, e)
-same_split [] (u ∷ us) ys bs len e = absurd (omega arith)
-same_split (x ∷ xs) [] ys bs len e = absurd (omega arith)
 same_split (x ∷ xs) (u ∷ us) ys bs len e =
     let first : x ≡ u = cc e in
     let tail : xs ++ ys ≡ us ++ bs = cc e in
     let rest = same_split xs us ys bs (omega arith) tail in
     (ap (λ w. w ∷ xs) first ∙ ap (λ w. u ∷ w) rest.0, rest.1)
+same_split _ _ ys bs len e = absurd (omega arith)

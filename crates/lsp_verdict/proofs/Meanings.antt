@@ -95,9 +95,8 @@ kept_means_yes limits log format records events is_log session clean editor serv
 -- ---- No
 
 abbrev IsBadLog : Verdict → Type 0
-IsBadLog (yes s) = ⊥
-IsBadLog (no rule who number event) = ⊥
 IsBadLog (bad_log number code) = Unit {0}
+IsBadLog _ = ⊥
 
 log_says : (flaw : Option (ℕ × LogCode)) (v : Verdict) → bad_log_of flaw ≡ Some v → IsBadLog v
 log_says None v e = let same : None ≡ Some v = e in absurd cc
@@ -143,9 +142,8 @@ no_names limits log rule who number event v = record {
 -- ---- BadLog
 
 abbrev pub IsNo : Verdict → Type 0
-IsNo (yes s) = ⊥
 IsNo (no rule who number event) = Unit {0}
-IsNo (bad_log number code) = ⊥
+IsNo _ = ⊥
 
 pub by_says_no : (before : List Event) (e : Event) (rule : ℕ) → IsNo (no_by before e rule)
 by_says_no before e rule = tt
@@ -184,5 +182,4 @@ bad_log_has limits log number code v =
 
 pub is_yes_given : (v : Verdict) (s : Summary) → yes s ≡ as_given v → (t : Summary) × (v ≡ yes t)
 is_yes_given (yes t) s e = (t, refl)
-is_yes_given (no rule by number event) s e = absurd cc
-is_yes_given (bad_log number code) s e = absurd cc
+is_yes_given _ s e = absurd cc

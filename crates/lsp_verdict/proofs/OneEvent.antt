@@ -43,8 +43,7 @@ one_event side bytes (message m) (fault by rule) p q = absurd (sent_not_refused 
 one_event side bytes (fault by rule) (message m) p q = absurd (sent_not_refused side bytes m rule q p.1)
 one_event side bytes (fault by r) (fault other s) p q = ap (λ w. fault w r) (p.0 ∙ sym q.0) ∙ ap (fault other) (one_refusal side bytes r s p.1 q.1)
 one_event side bytes (snapshot uri n t) f p q = absurd p
-one_event side bytes (message m) (snapshot uri n t) p q = absurd q
-one_event side bytes (fault by rule) (snapshot uri n t) p q = absurd q
+one_event side bytes _ (snapshot uri n t) p q = absurd q
 
 by_act : (side : Side) (bytes : List ℕ) (m : Message) (o : Option Act) → reading.Reads bytes m → act_at side m ≡ o → (e : Event) × ReadsAs side bytes e
 by_act side bytes m None reads is = (fault side 209, (refl, inr (refl, record { of = m; reads = reads; unread = is })))
@@ -60,8 +59,7 @@ some_event side bytes = by_reading side bytes (message_or_rule bytes)
 
 pub one_read : (raw : Raw) (e f : Event) → Reads raw e → Reads raw f → e ≡ f
 one_read (content side bytes) e f p q = one_event side bytes e f p q
-one_read (broken side rule) e f p q = p ∙ sym q
-one_read (show n uri t) e f p q = p ∙ sym q
+one_read _ e f p q = p ∙ sym q
 
 pub some_read : (raw : Raw) → (e : Event) × Reads raw e
 some_read (content side bytes) = some_event side bytes
@@ -70,11 +68,10 @@ some_read (show n uri t) = (snapshot uri n _, refl)
 
 pub one_list : (raws : List Raw) (es fs : List Event) → AllZip Reads raws es → AllZip Reads raws fs → es ≡ fs
 one_list [] [] [] p q = refl
-one_list [] [] (f ∷ fs) p q = absurd q
 one_list [] (e ∷ es) fs p q = absurd p
 one_list (raw ∷ raws) [] fs p q = absurd p
-one_list (raw ∷ raws) (e ∷ es) [] p q = absurd q
 one_list (raw ∷ raws) (e ∷ es) (f ∷ fs) p q = ap (λ w. w ∷ es) (one_read raw e f p.0 q.0) ∙ ap (λ w. f ∷ w) (one_list raws es fs p.1 q.1)
+one_list _ _ _ p q = absurd q
 
 pub some_list : (raws : List Raw) → (es : List Event) × AllZip Reads raws es
 some_list [] = ([], tt)
@@ -83,6 +80,5 @@ some_list (raw ∷ raws) = let first = some_read raw in let rest = some_list raw
 -- the events of what comes behind stand behind
 pub lists_join : (raws more : List Raw) (es fs : List Event) → AllZip Reads raws es → AllZip Reads more fs → AllZip Reads (raws ++ more) (es ++ fs)
 lists_join [] more [] fs p q = q
-lists_join [] more (e ∷ es) fs p q = absurd p
-lists_join (raw ∷ raws) more [] fs p q = absurd p
 lists_join (raw ∷ raws) more (e ∷ es) fs p q = (p.0, lists_join raws more es fs p.1 q)
+lists_join _ more _ fs p q = absurd p

@@ -162,19 +162,8 @@ is_editor Editor e = refl
 is_editor Server e = absurd (true≢false (sym e))
 
 is_it : (act : Act) → is_exit act ≡ true → act ≡ exit
-is_it (initialize offer) e = absurd (true≢false (sym e))
-is_it initialized e = absurd (true≢false (sym e))
-is_it shutdown e = absurd (true≢false (sym e))
 is_it exit e = refl
-is_it (did_open uri number text) e = absurd (true≢false (sym e))
-is_it (did_change uri number changes) e = absurd (true≢false (sym e))
-is_it (did_close uri) e = absurd (true≢false (sym e))
-is_it (did_save uri text) e = absurd (true≢false (sym e))
-is_it (cancel id) e = absurd (true≢false (sym e))
-is_it (progress id) e = absurd (true≢false (sym e))
-is_it early e = absurd (true≢false (sym e))
-is_it (register methods) e = absurd (true≢false (sym e))
-is_it other e = absurd (true≢false (sym e))
+is_it _ e = absurd (true≢false (sym e))
 
 pub exit_sent : (messages : List Sent) → was_sent is_exit messages ≡ true → HasExit messages
 exit_sent [] e = absurd (true≢false (sym e))

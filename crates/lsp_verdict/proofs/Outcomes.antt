@@ -27,15 +27,11 @@ use Rattle.lsp_verdict.proofs.Sessions.{same_session}
 -- ---- the bytes of a side don't depend on the cuts
 
 put_joined : (side : Side) (r : Record) (rs : List Record) → joined side (put r rs) ≡ joined side (r ∷ rs)
-put_joined side (shown n uri t) rs = refl
-put_joined side (chunk by b) [] = refl
-put_joined side (chunk by b) (shown n uri t ∷ rs) = refl
 put_joined Editor (chunk Editor b) (chunk Editor c ∷ rs) = append_assoc b c (joined Editor rs)
 put_joined Server (chunk Editor b) (chunk Editor c ∷ rs) = refl
 put_joined Editor (chunk Server b) (chunk Server c ∷ rs) = refl
 put_joined Server (chunk Server b) (chunk Server c ∷ rs) = append_assoc b c (joined Server rs)
-put_joined side (chunk Editor b) (chunk Server c ∷ rs) = refl
-put_joined side (chunk Server b) (chunk Editor c ∷ rs) = refl
+put_joined _ _ _ = refl
 
 behind : (side : Side) (r : Record) (rs us : List Record) → joined side rs ≡ joined side us → joined side (r ∷ rs) ≡ joined side (r ∷ us)
 behind side (shown n uri t) rs us e = e

@@ -94,13 +94,7 @@ one_placed limits editor server (shown v uri t ∷ rs) raws others p q =
 
 -- a record in one piece with the next leaves the events
 put_placed : (limits : Bounds) → (editor server : List ℕ) (r : Record) (rs : List Record) (raws : List Raw) → PlacedAfter limits editor server (r ∷ rs) raws → PlacedAfter limits editor server (put r rs) raws
-put_placed limits editor server (shown v uri t) rs raws p = p
 put_placed limits editor server (chunk Editor b) [] raws p = p
-put_placed limits editor server (chunk Server b) [] raws p = p
-put_placed limits editor server (chunk Editor b) (shown v uri t ∷ rs) raws p = p
-put_placed limits editor server (chunk Server b) (shown v uri t ∷ rs) raws p = p
-put_placed limits editor server (chunk Editor b) (chunk Server c ∷ rs) raws p = p
-put_placed limits editor server (chunk Server b) (chunk Editor c ∷ rs) raws p = p
 put_placed limits editor server (chunk Editor b) (chunk Editor c ∷ rs) raws p =
     let q = p.4 in (
       p.0 ++ q.0,
@@ -117,6 +111,7 @@ put_placed limits editor server (chunk Server b) (chunk Server c ∷ rs) raws p 
       join_brings limits Server server b c p.0 q.0 p.3 q.3,
       subst (λ (w : List ℕ). PlacedAfter limits editor w rs q.1) (append_assoc server b c) q.4,
     )
+put_placed limits editor server _ _ raws p = p
 
 merged_placed : (limits : Bounds) → (editor server : List ℕ) (rs : List Record) (raws : List Raw) → PlacedAfter limits editor server rs raws → PlacedAfter limits editor server (merged rs) raws
 merged_placed limits editor server [] raws p = p

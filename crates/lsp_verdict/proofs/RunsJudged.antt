@@ -32,9 +32,8 @@ read_within limits before after P p = (p.bytes, p.read.gave, p.read.no_further)
 -- a fault of the reader or of memory, where no write failed
 pub unwritten_sink : (fault : RunFault) (old new : ℕ) → (fault ≡ faults.Write → ⊥) → new ≡ old
     → new ≡ sink_failures_after fault old
-unwritten_sink faults.Read old new none same = same
-unwritten_sink faults.Memory old new none same = same
 unwritten_sink faults.Write old new none same = absurd (none refl)
+unwritten_sink _ old new none same = same
 
 -- this holds of the verdict that is judged
 pub judged_as : (given v : Verdict) (P : Verdict → Type 0)

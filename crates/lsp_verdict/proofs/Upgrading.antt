@@ -97,12 +97,10 @@ not_both limits format records more v offends keeps =
 one_accepted : (limits : Bounds) (format : Format) (done : List Record) (a b la lb : List Record) → a ++ la ≡ b ++ lb → AreAccepted limits format (done ++ a) → AreAccepted limits format (done ++ b)
     → StopsAt limits format (done ++ a) la → StopsAt limits format (done ++ b) lb → a ≡ b
 one_accepted limits format done [] [] la lb e ka kb sa sb = refl
-one_accepted limits format done [] (y ∷ b) [] lb e ka kb sa sb = absurd cc
 one_accepted limits format done [] (y ∷ b) (x ∷ la) lb e ka kb sa sb =
     let same : x ≡ y = cc e in
     let here : (done ++ []) ++ x ∷ [] ≡ done ++ y ∷ [] = ap (λ w. w ++ x ∷ []) (append-nil done) ∙ ap (λ (r : Record). done ++ r ∷ []) same in
     not_both limits format (done ++ y ∷ []) b sa.0 (subst (λ w. Offends limits format w sa.0) here sa.1) (subst (AreAccepted limits format) (sym (append_assoc done (y ∷ []) b)) kb)
-one_accepted limits format done (x ∷ a) [] la [] e ka kb sa sb = absurd cc
 one_accepted limits format done (x ∷ a) [] la (y ∷ lb) e ka kb sa sb =
     let same : x ≡ y = cc e in
     let here : (done ++ []) ++ y ∷ [] ≡ done ++ x ∷ [] = ap (λ w. w ++ y ∷ []) (append-nil done) ∙ ap (λ (r : Record). done ++ r ∷ []) (sym same) in
@@ -116,6 +114,7 @@ one_accepted limits format done (x ∷ a) (y ∷ b) la lb e ka kb sa sb =
     (subst (AreAccepted limits format) move_a ka) (subst (AreAccepted limits format) move_b kb)
     (subst (λ w. StopsAt limits format w la) move_a sa) (subst (λ w. StopsAt limits format w lb) move_b sb) in
     ap (λ (r : Record). r ∷ a) same ∙ ap (λ w. y ∷ w) tails
+one_accepted limits format done _ _ _ _ e ka kb sa sb = absurd cc
 
 pub same_accepted : (limits : Bounds) (format : Format) (records a b : List Record) → HasAccepted limits format records a → HasAccepted limits format records b → a ≡ b
 same_accepted limits format records a b p q = one_accepted limits format [] a b p.later q.later (sym p.whole ∙ q.whole) p.keeps q.keeps p.stops q.stops

@@ -32,8 +32,7 @@ names_first terms es v e =
 
 abbrev pub IsRefusal : Verdict → Type 0
 IsRefusal (yes s) = ⊥
-IsRefusal (no rule who number event) = Unit {0}
-IsRefusal (bad_log number code) = Unit {0}
+IsRefusal _ = Unit {0}
 
 by_refuses : (before : List Event) (e : Event) (rule : ℕ) → IsRefusal (no_by before e rule)
 by_refuses before e rule = tt

@@ -47,8 +47,7 @@ after_byte side n (shown number uri text ∷ records) = after_byte side n record
 
 -- behind each of the frames of these contents, with which a side's last bytes begin, the bytes at
 -- hand: those of the record in which it ends
-abbrev pub AreBehind : Bounds → Side → List Record → List ℕ → List (List ℕ) → List (List ℕ)
-    → Type 0
+abbrev pub AreBehind : Bounds → Side → List Record → List ℕ → List (List ℕ) → List (List ℕ) → Type 0
 AreBehind limits side records bytes [] behind = behind ≡ []
 AreBehind limits side records bytes (content ∷ contents) behind =
     (after : List ℕ) × Begins limits bytes content after

@@ -42,8 +42,7 @@ pub record AreInterleavings (events others : List Event) : Type 0 where
 -- a message means what its side, its method and its params say
 abbrev pub IsRead : Event → Type 0
 IsRead (message m) = act_at m.side m.message ≡ Some m.act
-IsRead (fault side rule) = Unit {0}
-IsRead (snapshot uri number text) = Unit {0}
+IsRead _ = Unit {0}
 
 -- **The events of records are read.**
 abbrev pub SessionsAreRead : Type 0

@@ -213,8 +213,7 @@ CompleteMeansFault = (limits : Bounds) (log : List ℕ) (number : ℕ) (code : L
 
 -- no version but the present one is kept
 abbrev pub keeping_none : Bounds → Terms
-keeping_none limits =
-    record { limit = limits.document; kept = 0; line_ends = limits.line_ends }
+keeping_none limits = record { limit = limits.document; kept = 0; line_ends = limits.line_ends }
 
 -- the verdict on a log of format 1 by definitions that keep no version but the present one
 pub record IsVerdictKeepingNone (limits : Bounds) (log : List ℕ) (v : Verdict) : Type 0 where

@@ -9,7 +9,7 @@ use Rattle.std.specs.Ordering.{int_eq}
 use Rattle.std.specs.Str.{bytes_eq}
 use Rattle.lsp_frame.specs.Bounds.{Bounds}
 use Rattle.lsp_rpc.specs.Ident.{Ident}
-use Rattle.lsp_rpc.specs.Message.{Message, request, notification, response, result, error}
+use Rattle.lsp_rpc.specs.Message.{Message, request, notification, response, error}
 use Rattle.lsp_rpc.specs.Params.{required, uri_at}
 use Rattle.lsp_rpc.specs.Reading as content
 use Rattle.lsp_types.specs.declared.side.Side.{Side}
@@ -19,14 +19,14 @@ use Rattle.lsp_session.specs.Requests.{names}
 use Rattle.lsp_session.specs.Sent.{Sent, answered_from, other_side, request_of, response_id}
 use Rattle.lsp_session.specs.Sent.{same_side}
 use Rattle.lsp_text.specs.Edits.{Edit}
-use Rattle.lsp_docs.specs.Calls.{Call, opens, changes, closes, saves, shows, uri_of}
+use Rattle.lsp_docs.specs.Calls.{Call, opens, changes, uri_of}
 use Rattle.lsp_docs.specs.Documents.{Version, held, Terms}
 use Rattle.lsp_text.specs.SameText.{same_text}
 use Rattle.lsp_log.specs.Log.{Record}
 use Rattle.lsp_verdict.specs.Event.{call_at, calls, Event, message, fault, snapshot, sent_in}
 use Rattle.lsp_verdict.specs.LookBack.{first_of, each_of}
 use Rattle.lsp_verdict.specs.Placed as placed
-use Rattle.lsp_verdict.specs.Placed.{Raw, broken, show, Placed, Reads}
+use Rattle.lsp_verdict.specs.Placed.{Raw, Placed, Reads}
 use Rattle.lsp_verdict.specs.Spelling.{is_alike}
 use Rattle.lsp_verdict.specs.Verdict.{Verdict, offence, no_by}
 use Rattle.lsp_types.specs.declared.rules.TheConstants as rules
@@ -113,9 +113,7 @@ loses rule other call =
 abbrev pub renews : Call → Bool
 renews (opens uri number text) = true
 renews (changes enc kind uri number edits) = list_any (λ (edit : Edit). is_none edit.span) edits
-renews (closes uri) = false
-renews (saves uri text) = false
-renews (shows uri number text) = false
+renews _ = false
 
 -- whether a call leaves documents lost that it concerns, where it says anything of that: it
 -- offends by this rule, or is kept, and opens its document again with another text or does not
@@ -138,11 +136,10 @@ brings_text method = bytes_eq method (codes "textDocument/didOpen")
 
 -- the document that a message opens or changes, whatever else its params have
 abbrev pub brought_by : Message → Option (List ℕ)
-brought_by (request id method params) = None
 brought_by (notification method params) =
     if brings_text method then option_and_then (required (codes "textDocument") uri_at) params
     else None
-brought_by (response id reply) = None
+brought_by _ = None
 
 -- whether the document of this URI is left lost where this one was to be brought a text, by a
 -- message whose params do not have their shape
@@ -182,8 +179,7 @@ is_lost terms uri before = last_or false (each_of (lost_by terms uri) before)
 -- 504: an event that offends by this rule registers synchronisation, which is not followed
 abbrev pub leaves_unsynced : ℕ → Event → Bool
 leaves_unsynced rule (message m) = rule == rules.DYNAMIC_REGISTRATION
-leaves_unsynced rule (fault side code) = false
-leaves_unsynced rule (snapshot uri number text) = false
+leaves_unsynced rule _ = false
 
 abbrev pub unsynced_by : Terms → List Noted → Noted → Option ℕ
 unsynced_by terms before n =
@@ -199,8 +195,7 @@ is_unsynced terms before = is_some (first_of (unsynced_by terms) before)
 
 abbrev pub asks_handshake : Message → Bool
 asks_handshake (request id method params) = bytes_eq method (codes "initialize")
-asks_handshake (notification method params) = false
-asks_handshake (response id reply) = false
+asks_handshake _ = false
 
 -- the message asks for the handshake
 abbrev pub asks : Option Message → Bool
@@ -234,8 +229,7 @@ is_handshake_lost terms before = is_some (first_of (broken_by terms) before) && 
 -- 101 to 106: the frames of this side have a fault, after which its stream is at its end
 abbrev pub is_frame_fault : Side → Event → Bool
 is_frame_fault side (fault by rule) = same_side side by && nat_le rule rules.CHARSET_NOT_UTF_8
-is_frame_fault side (message m) = false
-is_frame_fault side (snapshot uri number text) = false
+is_frame_fault side _ = false
 
 -- **the frames of this side broke**: nothing is heard of what it sends later
 abbrev pub has_broken : Side → List Event → Bool
@@ -262,8 +256,7 @@ wants_other rule = rule == rules.RESPONSE_TO_NO_OPEN_REQUEST
 abbrev pub is_no_message : Side → Event → Bool
 is_no_message side (fault by rule) =
     same_side side by && is_within rules.CONTENT_NOT_JSON rules.BAD_ERROR_OBJECT rule
-is_no_message side (message m) = false
-is_no_message side (snapshot uri number text) = false
+is_no_message side _ = false
 
 -- **a content of this side was no message**: the other side may answer that it cannot read it
 abbrev pub has_no_message : Side → List Event → Bool
@@ -271,10 +264,8 @@ has_no_message side events = list_any (is_no_message side) events
 
 -- an error whose id is null, as JSON-RPC 2.0 ("Response object") wants it where none can be read
 abbrev pub is_nameless : Message → Bool
-is_nameless (request id method params) = false
-is_nameless (notification method params) = false
 is_nameless (response id (error code)) = is_none id
-is_nameless (response id (result value)) = false
+is_nameless _ = false
 
 -- 301: the message answers a content of the other side that was no message
 abbrev pub answers_content : ℕ → List Event → Sent → Bool
@@ -310,8 +301,7 @@ asked_by side (snapshot uri number text) malformed = None
 -- the id of this side's request that an event answers
 abbrev pub answered_by : Side → Event → Option Ident
 answered_by side (message m) = answered_from side m.side m.message
-answered_by side (fault by rule) = None
-answered_by side (snapshot uri number text) = None
+answered_by side _ = None
 
 -- what an event that offends by this rule does to the request with this id: it asks the one, which
 -- is passed over, or answers the other, so that no answer is left
@@ -338,23 +328,20 @@ is_any_passed terms side (Some id) before = is_passed terms side id before
 
 -- the message is a notification `initialized`
 abbrev pub tells_initialized : Message → Bool
-tells_initialized (request id method params) = false
 tells_initialized (notification method params) = bytes_eq method (codes "initialized")
-tells_initialized (response id reply) = false
+tells_initialized _ = false
 
 -- the event is one of the editor's
 abbrev pub is_initialized_by : Event → Bool
 is_initialized_by (message m) = same_side Editor m.side && tells_initialized m.message
-is_initialized_by (fault side rule) = false
-is_initialized_by (snapshot uri number text) = false
+is_initialized_by _ = false
 
 -- an event that offends by this rule leaves the server without an `initialized`: it is one, or
 -- wants one before it
 abbrev pub leaves_unheard : ℕ → Event → Bool
 leaves_unheard rule (message m) =
     is_initialized_by (message m) || rule == rules.INITIALIZED_NOT_FIRST
-leaves_unheard rule (fault side code) = false
-leaves_unheard rule (snapshot uri number text) = false
+leaves_unheard rule _ = false
 
 abbrev pub unheard_by : Terms → List Noted → Noted → Option ℕ
 unheard_by terms before n =
@@ -373,8 +360,7 @@ follows_passed terms rule before (message m) =
     rule == rules.RESPONSE_TO_NO_OPEN_REQUEST
     && is_any_passed terms (other_side m.side) (response_id m.message) before
     || rule == rules.INITIALIZED_NOT_FIRST && is_unheard terms before
-follows_passed terms rule before (fault side code) = false
-follows_passed terms rule before (snapshot uri number text) = false
+follows_passed terms rule before _ = false
 
 -- ---- what follows
 
@@ -392,8 +378,7 @@ wants_text rule = is_within rules.DOCUMENT_NOT_OPEN rules.SAVED_TEXT_DIFFERS rul
 -- it speaks of a document that is lost, or of any after synchronisation was registered
 abbrev pub is_on_lost : Terms → List Noted → Option Call → Bool
 is_on_lost terms before None = false
-is_on_lost terms before (Some call) =
-    is_lost terms (uri_of call) before || is_unsynced terms before
+is_on_lost terms before (Some call) = is_lost terms (uri_of call) before || is_unsynced terms before
 
 -- **the offence of this event, by this rule, follows from an earlier one**
 abbrev pub follows : Terms → List Noted → Noted → ℕ → Bool

@@ -68,8 +68,7 @@ of_pull pulls.Memory = faults.Memory
 -- a source has failed once more after a read fault, and no more after anything else
 abbrev pub failures_after : RunFault → ℕ → ℕ
 failures_after faults.Read before = after_failure before
-failures_after faults.Write before = before
-failures_after faults.Memory before = before
+failures_after _ before = before
 
 abbrev pub failures_read : {X : Type 0} → Result X RunFault → ℕ → ℕ
 failures_read (Ok answer) before = before
@@ -78,8 +77,7 @@ failures_read (Err fault) before = failures_after fault before
 -- a sink has failed once more after a write fault, and no more after anything else
 abbrev pub sink_failures_after : RunFault → ℕ → ℕ
 sink_failures_after faults.Write before = after_failure before
-sink_failures_after faults.Read before = before
-sink_failures_after faults.Memory before = before
+sink_failures_after _ before = before
 
 abbrev pub failures_written : {X : Type 0} → Result X RunFault → ℕ → ℕ
 failures_written (Ok answer) before = before
@@ -129,8 +127,7 @@ IsSilent io = io.sink_after ≡ io.sink_before
 -- the limit is read
 pub record CountsFaults {X : Type 0} (limits : Bounds) (io : Ports)
     (result : Result X RunFault) : Type 0 where
-  pub source_failures :
-      io.source_after.failures ≡ failures_read result io.source_before.failures
+  pub source_failures : io.source_after.failures ≡ failures_read result io.source_before.failures
   pub sink_failures : io.sink_after.failures ≡ failures_written result io.sink_before.failures
   pub limit : GaveAtMost (limits.log + 1) io.source_before io.source_after
 

@@ -130,10 +130,7 @@ OneText = (limits : Bounds) → IsInRange limits → (log : List ℕ) (n : ℕ) 
 -- what is written for an answer: the text, and nothing where there is none
 abbrev pub written_of : TextAnswer → List ℕ
 written_of (text_is text) = encodes text
-written_of no_document = []
-written_of too_few = []
-written_of no_difference = []
-written_of (refused v) = []
+written_of _ = []
 
 -- how a run ends that has this answer
 abbrev pub EndsAs : TextAnswer → Outcome → Type 0

@@ -18,7 +18,7 @@ use Rattle.lsp_verdict.specs.Offences.{IsNotedSession}
 use Rattle.lsp_verdict.specs.Outcome.{HasRest, ending, log_terms}
 use Rattle.lsp_verdict.specs.Placed.{joined}
 use Rattle.lsp_verdict.specs.Report.{line, no_lines, report}
-use Rattle.lsp_verdict.specs.Verdict.{Verdict, yes, no, bad_log, Summary, summary, Ending, bad_log_of, no_next}
+use Rattle.lsp_verdict.specs.Verdict.{Verdict, yes, no, Summary, summary, Ending, bad_log_of, no_next}
 use Rattle.lsp_types.specs.declared.rules.TheConstants as rules
 
 -- ---- how a session ends

@@ -128,35 +128,28 @@ cut_fits limits side (suc n) (x ∷ xs) full within =
 records_fit : (limits : Bounds) (raws : List Raw) → 1 ≤ limits.chunk
     → AllByRecursion (IsSane limits) raws
     → AllByRecursion (Fits limits) (records_of limits.chunk raws)
-records_fit limits [] full sane = tt
 records_fit limits (content side bytes ∷ raws) full sane =
     all_append (Fits limits) (chunks limits.chunk side (canonical bytes))
     (records_of limits.chunk raws)
     (cut_fits limits side (length (canonical bytes)) (canonical bytes) full (omega arith))
     (records_fit limits raws full sane.1)
-records_fit limits (broken side rule ∷ raws) full sane = tt
 records_fit limits (show n uri t ∷ raws) full sane = (sane.0, records_fit limits raws full sane.1)
+records_fit limits _ full sane = tt
 
 -- ---- the records in one piece each
 
 abbrev pub frames_of : List Raw → List Record
-frames_of [] = []
 frames_of (content side bytes ∷ raws) = chunk side (canonical bytes) ∷ frames_of raws
-frames_of (broken side rule ∷ raws) = []
 frames_of (show n uri t ∷ raws) = shown n uri t ∷ frames_of raws
+frames_of _ = []
 
 put_twice : (side : Side) (a b : List ℕ) (rs : List Record)
     → put (chunk side a) (put (chunk side b) rs) ≡ put (chunk side (a ++ b)) rs
-put_twice Editor a b [] = refl
-put_twice Server a b [] = refl
-put_twice Editor a b (shown n uri t ∷ rs) = refl
-put_twice Server a b (shown n uri t ∷ rs) = refl
 put_twice Editor a b (chunk Editor c ∷ rs) =
     ap (λ (w : List ℕ). chunk Editor w ∷ rs) (sym (append_assoc a b c))
 put_twice Server a b (chunk Server c ∷ rs) =
     ap (λ (w : List ℕ). chunk Server w ∷ rs) (sym (append_assoc a b c))
-put_twice Editor a b (chunk Server c ∷ rs) = refl
-put_twice Server a b (chunk Editor c ∷ rs) = refl
+put_twice _ a b _ = refl
 
 merged_cut : (size : ℕ) (side : Side) (n : ℕ) (bytes : List ℕ) (rs : List Record) → 1 ≤ size
     → 1 ≤ length bytes → length bytes ≤ n
@@ -191,14 +184,13 @@ canonical_some bytes = omega arith
 
 merged_records : (size : ℕ) (raws : List Raw) → 1 ≤ size
     → merged (records_of size raws) ≡ merged (frames_of raws)
-merged_records size [] full = refl
 merged_records size (content side bytes ∷ raws) full =
     merged_cut size side (length (canonical bytes)) (canonical bytes) (records_of size raws) full
     (canonical_some bytes) (omega arith)
     ∙ ap (put (chunk side (canonical bytes))) (merged_records size raws full)
-merged_records size (broken side rule ∷ raws) full = refl
 merged_records size (show n uri t ∷ raws) full =
     ap (λ (rs : List Record). shown n uri t ∷ rs) (merged_records size raws full)
+merged_records size _ full = refl
 
 -- ---- their events
 
@@ -264,8 +256,6 @@ frames_placed : (limits : Bounds) → IsInRange limits
     → AllByRecursion (IsSane limits) raws → IsStream limits editor es [] None
     → IsStream limits server ss [] None
     → AreFrames limits editor server (frames_of raws) (before_fault raws)
-frames_placed limits sizes editor server es ss [] sane p q =
-    none_placed limits editor server es ss p q
 frames_placed limits sizes editor server es ss (content Editor bytes ∷ raws) sane p q =
     let later = frames_placed limits sizes (editor ++ canonical bytes) server (es ++ bytes ∷ []) ss
     raws sane.1 (stream_push limits sizes editor bytes es sane.0 p) q in
@@ -298,8 +288,6 @@ frames_placed limits sizes editor server es ss (content Server bytes ∷ raws) s
           (append_assoc server (canonical bytes) (joined Server (frames_of raws)))
           later.server_rest;
     }
-frames_placed limits sizes editor server es ss (broken side rule ∷ raws) sane p q =
-    none_placed limits editor server es ss p q
 frames_placed limits sizes editor server es ss (show n uri t ∷ raws) sane p q =
     let later = frames_placed limits sizes editor server es ss raws sane.1 p q in
     record {
@@ -307,6 +295,8 @@ frames_placed limits sizes editor server es ss (show n uri t ∷ raws) sane p q 
       editor_rest = later.editor_rest;
       server_rest = later.server_rest;
     }
+frames_placed limits sizes editor server es ss _ sane p q =
+    none_placed limits editor server es ss p q
 
 -- ---- the form as a log
 
@@ -349,19 +339,17 @@ again limits sizes out format raws sane written within =
 -- ---- what the log is
 
 pub sound_from : (before raws : List Raw) → first_from no_at before (before_fault raws) ≡ None
-sound_from before [] = refl
 sound_from before (content side bytes ∷ raws) = sound_from (before ++ content side bytes ∷ []) raws
-sound_from before (broken side rule ∷ raws) = refl
 sound_from before (show n uri t ∷ raws) = sound_from (before ++ show n uri t ∷ []) raws
+sound_from before _ = refl
 
 same_records : (size : ℕ) (raws : List Raw)
     → records_of size (before_fault raws) ≡ records_of size raws
-same_records size [] = refl
 same_records size (content side bytes ∷ raws) =
     ap (λ (rs : List Record). chunks size side (canonical bytes) ++ rs) (same_records size raws)
-same_records size (broken side rule ∷ raws) = refl
 same_records size (show n uri t ∷ raws) =
     ap (λ (rs : List Record). shown n uri t ∷ rs) (same_records size raws)
+same_records size _ = refl
 
 -- the events whose form it is, all within the limits
 pub record HasForm (limits : Bounds) (out : List ℕ) : Type 0 where

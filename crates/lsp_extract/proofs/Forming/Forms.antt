@@ -98,9 +98,8 @@ one_broken raw before v is sound =
 -- a fault of the frames has no records
 pub spelled_broken : (size : ℕ) (before : List Raw) (raw : Raw) (v : Verdict)
     → no_at before raw ≡ Some v → spelled size (raw ∷ []) ≡ []
-spelled_broken size before (content side bytes) v is = absurd cc
 spelled_broken size before (broken side rule) v is = refl
-spelled_broken size before (show number uri text) v is = absurd cc
+spelled_broken size before _ v is = absurd cc
 
 -- ---- counts
 

@@ -64,8 +64,6 @@ kept_from : (limits : Bounds) (terms : Terms) (before : List Event) (raws : List
     → AllZip Reads raws events → first_from (no_at terms) before events ≡ Some v
     → Kept terms before raws v
 kept_from limits terms before [] [] v on sane reads first = absurd cc
-kept_from limits terms before [] (e ∷ events) v on sane reads first = absurd reads
-kept_from limits terms before (raw ∷ raws) [] v on sane reads first = absurd reads
 kept_from limits terms before (content side bytes ∷ raws) (e ∷ events) v on sane reads first =
     kept_more terms before (content side bytes) e raws events v reads.0 refl (no_at terms before e)
     refl first (λ later. kept_from limits terms (before ++ e ∷ []) raws events v on sane.1
@@ -80,6 +78,7 @@ kept_from limits terms before (broken side rule ∷ raws) (e ∷ events) v on sa
     first in
     absurd (on_frames rule v (no_next rule (whose (fault side rule)) before) (cc here) sane.0 on
     (λ names. names))
+kept_from limits terms before _ _ v on sane reads first = absurd reads
 
 -- ---- an offence
 
@@ -130,11 +129,9 @@ yes_with : (terms : Terms) (events : List Event) (o : Option Verdict) → o ≡ 
 yes_with terms events (Some u) none flaw editor server v on says = absurd (cc none)
 yes_with terms events None none (Some flaw) editor server v on says =
     absurd (subst IsOnEvents (sym says) on)
-yes_with terms events None none None (b ∷ editor) server v on says =
-    absurd (false≢true (sym (subst IsOnEvents (sym says) on)))
-yes_with terms events None none None [] (b ∷ server) v on says =
-    absurd (false≢true (sym (subst IsOnEvents (sym says) on)))
 yes_with terms events None none None [] [] v on says = says
+yes_with terms events None none None _ _ v on says =
+    absurd (false≢true (sym (subst IsOnEvents (sym says) on)))
 
 yes_again : (limits : Bounds) → IsInRange limits
     → (out : List ℕ) (format : Format) (raws : List Raw) (events : List Event) (v : Verdict)

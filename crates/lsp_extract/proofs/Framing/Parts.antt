@@ -18,25 +18,22 @@ use Rattle.lsp_verdict.specs.declared.outcome.StreamFault.TheVariants.{Rule}
 -- a frame has one part
 pub one_part : (mode : Mode) (frame : ℕ) (content p q : List ℕ) → IsPart mode frame content p
     → IsPart mode frame content q → p ≡ q
-one_part Lengths frame content p q a b = a ∙ sym b
-one_part Canonical frame content p q a b = a ∙ sym b
 one_part Kinds frame content p q a b =
     a.2 ∙ ap (λ (m : Message). kind_line frame content (words_of m))
     (one_message content a.0 b.0 a.1 b.1) ∙ sym b.2
+one_part _ frame content p q a b = a ∙ sym b
 
 -- a content that has a part is not refused
 pub not_refused : (mode : Mode) (frame : ℕ) (content part : List ℕ) (rule : ℕ)
     → IsPart mode frame content part → Refuses mode content rule → ⊥
-not_refused Lengths frame content part rule is refused = refused
-not_refused Canonical frame content part rule is refused = refused
 not_refused Kinds frame content part rule is refused = not_both content is.0 rule is.1 refused
+not_refused _ frame content part rule is refused = refused
 
 -- a content is refused by one rule
 pub one_refusal : (mode : Mode) (content : List ℕ) (r s : ℕ) → Refuses mode content r
     → Refuses mode content s → r ≡ s
-one_refusal Lengths content r s a b = absurd a
-one_refusal Canonical content r s a b = absurd a
 one_refusal Kinds content r s a b = one_rule content r s a b
+one_refusal _ content r s a b = absurd a
 
 -- ---- one answer for all contents
 

@@ -14,9 +14,8 @@ use Rattle.lsp_text.proofs.Positions.{take-add_here}
 
 slice_get-take : (xs : List ℕ) (n i : ℕ) → i < n → slice_get (take n xs) i ≡ slice_get xs i
 slice_get-take xs zero i lt = absurd (omega arith)
-slice_get-take [] (suc n) i lt = refl
-slice_get-take (x ∷ xs) (suc n) zero lt = refl
 slice_get-take (x ∷ xs) (suc n) (suc i) lt = slice_get-take xs n i (omega arith)
+slice_get-take _ (suc n) _ lt = refl
 
 slice_get-append : (xs ys : List ℕ) → slice_get (xs ++ ys) (length xs) ≡ slice_get ys 0
 slice_get-append [] ys = refl
@@ -39,13 +38,12 @@ later x y xs ys n e h = record { before = ap (λ z. z ∷ take n xs) e ∙ ap (�
 
 equal_or_different : (a b : List ℕ) → (a ≡ b) ⊎ ((n : ℕ) × IsFirstDifference a b n)
 equal_or_different [] [] = inl refl
-equal_or_different [] (y ∷ ys) = inr (0, record { before = refl; here = λ e. absurd (cc) })
-equal_or_different (x ∷ xs) [] = inr (0, record { before = refl; here = λ e. absurd (cc) })
 equal_or_different (x ∷ xs) (y ∷ ys) =
     ⊎_elim
     (λ e. ⊎_elim (λ same. inl (ap (λ z. z ∷ xs) e ∙ ap (λ (z : List ℕ). y ∷ z) same)) (λ d. inr (suc d.0, later x y xs ys d.0 e d.1)) (equal_or_different xs ys))
     (λ apart. inr (0, record { before = refl; here = λ e. apart (cc) }))
     (cases_eq x y)
+equal_or_different _ _ = inr (0, record { before = refl; here = λ e. absurd (cc) })
 
 -- **Two texts are equal, or first differ at exactly one place.**
 pub one_difference : OneDifference
@@ -67,8 +65,6 @@ heads_differ : (a b cs ds : List ℕ) (at offset : ℕ) → AreBehind a b at off
 heads_differ a b [] [] at offset h left right e =
     let whole : a ≡ b = sym (take-append-drop offset a) ∙ ap (λ x. take offset a ++ x) (left ∙ sym right) ∙ ap (λ x. x ++ drop offset b) h.same ∙ take-append-drop offset b in
     h.first.here (ap (λ (x : List ℕ). slice_get x at) whole)
-heads_differ a b [] (d ∷ ds) at offset h left right e = absurd (cc)
-heads_differ a b (c ∷ cs) [] at offset h left right e = absurd (cc)
 heads_differ a b (c ∷ cs) (d ∷ ds) at offset h left right e =
     let same : d ≡ c = cc in
     let n = len_utf8 c in
@@ -79,6 +75,7 @@ heads_differ a b (c ∷ cs) (d ∷ ds) at offset h left right e =
     lt))
     (λ le. h.last (offset + n) (omega (arith, (len_utf8_bounds c).0)) le (IsCharBoundary-past_char a (encodes cs) offset c h.boundary.0 (IsUtf8-drop a offset h.left h.boundary) left))
     (cases_lt at (offset + n))
+heads_differ a b _ _ at offset h left right e = absurd (cc)
 
 -- **Texts whose bytes first differ at `at` part at the last place before it at which one of them
 -- may be cut.**

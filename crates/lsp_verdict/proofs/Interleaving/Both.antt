@@ -130,23 +130,21 @@ clash h k w s same = absurd (true≢false (ap is_some (sym s.first ∙ sym same 
 one_open : (h k more rest : List Sent) (id : Option Ident) (reply : Reply) (act : Act) → Stage h → Stage k → request_rule h (replying id reply act) ≡ None → request_rule k (replying id reply act) ≡ None
     → filter is_asked h ++ more ≡ filter is_asked k ++ rest → length (filter is_reply h) ≡ length (filter is_reply k) → first_result h ≡ first_result k → open_initializes h ≡ open_initializes k
 one_open h k more rest id reply act (fresh f) t p q asks replies results = never id (open_rule h id reply act [] p f.none_open)
-one_open h k more rest id reply act (waiting w) (fresh f) p q asks replies results = never id (open_rule k id reply act [] q f.none_open)
 one_open h k more rest id reply act (waiting w) (waiting v) p q asks replies results = one_start h k more rest w v asks replies
 one_open h k more rest id reply act (waiting w) (settled s) p q asks replies results = clash h k w s results
-one_open h k more rest id reply act (settled s) (fresh f) p q asks replies results = never id (open_rule k id reply act [] q f.none_open)
 one_open h k more rest id reply act (settled s) (waiting v) p q asks replies results = clash k h v s (sym results)
 one_open h k more rest id reply act (settled s) (settled t) p q asks replies results = s.none_starts ∙ sym t.none_starts
+one_open h k more rest id reply act _ (fresh f) p q asks replies results = never id (open_rule k id reply act [] q f.none_open)
 
 -- what a message settles is the same in both
 one_settled : (h k more rest : List Sent) (side : Side) (said : Message) (act : Act) → Stage h → Stage k → request_rule h (sent_by side act said) ≡ None → request_rule k (sent_by side act said) ≡ None
     → filter is_asked h ++ more ≡ filter is_asked k ++ rest → (side ≡ Server → (length (filter is_reply h) ≡ length (filter is_reply k)) × (first_result h ≡ first_result k))
     → settled_by h (sent_by side act said) ≡ settled_by k (sent_by side act said)
 one_settled h k more rest Editor said act s t p q asks turn = ap (λ o. settled_at o (result_of said)) (no_offer (open_initializes h) ∙ sym (no_offer (open_initializes k)))
-one_settled h k more rest Server (request id method params) act s t p q asks turn = ap (λ o. settled_at o None) (no_offer (open_initializes h) ∙ sym (no_offer (open_initializes k)))
-one_settled h k more rest Server (notification method params) act s t p q asks turn = ap (λ o. settled_at o None) (no_offer (open_initializes h) ∙ sym (no_offer (open_initializes k)))
 one_settled h k more rest Server (response id reply) act s t p q asks turn =
     let facts = turn refl in
     ap (λ starts. settled_at (offer_to id starts) (result_of (response id reply))) (one_open h k more rest id reply act s t p q asks facts.0 facts.1)
+one_settled h k more rest Server _ act s t p q asks turn = ap (λ o. settled_at o None) (no_offer (open_initializes h) ∙ sym (no_offer (open_initializes k)))
 
 -- ---- the rules on the order
 
@@ -160,9 +158,8 @@ if_ordered false x y p q = q
 
 ids_ordered : (asked other : List Entry) (said : Message) → is_ordered (id_rule asked other said) ≡ true
 ids_ordered asked other (request id method params) = if_ordered (has_id id asked) (Some 302) None refl refl
-ids_ordered asked other (notification method params) = refl
-ids_ordered asked other (response None reply) = refl
 ids_ordered asked other (response (Some id) reply) = if_ordered (has_id id other) None (Some 301) refl refl
+ids_ordered asked other _ = refl
 
 abbrev all_ordered : List Row → Bool
 all_ordered [] = true

@@ -103,19 +103,16 @@ message_call h m result (settled s) read rule leads =
 -- the event breaks no rule of a session
 abbrev pub Keeps : List Event → Event → Type 0
 Keeps before (message m) = rule_after (sent_in before) m ≡ None
-Keeps before (fault side rule) = Unit {0}
-Keeps before (snapshot uri n t) = Unit {0}
+Keeps before _ = Unit {0}
 
 pub keeps : (terms : Terms) (before : List Event) (e : Event) → offence terms before e ≡ None → Keeps before e
 keeps terms before (message m) none = session_rule_none terms before m none
-keeps terms before (fault side rule) none = tt
-keeps terms before (snapshot uri n t) none = tt
+keeps terms before _ none = tt
 
 pub event_call : (before : List Event) (e : Event) (result : Option Data) → Stage (sent_in before) → IsRead e → Keeps before e → Leads (sent_in before) result → call_at before e ≡ call_under (by_result result) e
 event_call before (message m) result stage read rule leads =
     ap (λ a. call_of (encoding_in a) (kind_in a) m.act) (agreed_stage (sent_in before) stage) ∙ message_call (sent_in before) m result stage read rule leads
-event_call before (fault side rule) result stage read rule_ leads = refl
-event_call before (snapshot uri n t) result stage read rule leads = refl
+event_call before _ result stage read _ leads = refl
 
 -- what the first messages lead to
 pub leads_front : (es fs : List Event) (result : Option Data) → Leads (sent_in (es ++ fs)) result → Leads (sent_in es) result

@@ -239,12 +239,10 @@ pub first_asks : (exited an_exit done empty start : Bool) (rows : List (Bool × 
     ∷ (true, first_row {X = ℕ} (((not done && empty) && start, None) ∷ (not done && empty, Some 401) ∷ (not done && not empty, Some 402) ∷ rows))
     ∷ []) ≡ None
     → (empty ≡ true) × (start ≡ true)
-first_asks true an_exit done empty start rows stay early h = absurd (true≢false (ap is_some h))
 first_asks false true done empty start rows stay early h = absurd (true≢false stay)
 first_asks false false true empty start rows stay early h = absurd (true≢false early)
 first_asks false false false true true rows stay early h = (refl, refl)
-first_asks false false false true false rows stay early h = absurd (true≢false (ap is_some h))
-first_asks false false false false start rows stay early h = absurd (true≢false (ap is_some h))
+first_asks _ _ _ _ _ rows stay early h = absurd (true≢false (ap is_some h))
 
 -- what is no `initialize` comes after it
 pub others_follow : (exited an_exit done empty start : Bool) (rows : List (Bool × Option ℕ)) → an_exit ≡ false → start ≡ false
@@ -255,12 +253,10 @@ pub others_follow : (exited an_exit done empty start : Bool) (rows : List (Bool 
     ∷ (true, first_row {X = ℕ} (((not done && empty) && start, None) ∷ (not done && empty, Some 401) ∷ (not done && not empty, Some 402) ∷ rows))
     ∷ []) ≡ None
     → done ≡ true
-others_follow true an_exit done empty start rows stay other h = absurd (true≢false (ap is_some h))
 others_follow false true done empty start rows stay other h = absurd (true≢false stay)
 others_follow false false true empty start rows stay other h = refl
 others_follow false false false true true rows stay other h = absurd (true≢false other)
-others_follow false false false true false rows stay other h = absurd (true≢false (ap is_some h))
-others_follow false false false false start rows stay other h = absurd (true≢false (ap is_some h))
+others_follow _ _ _ _ _ rows stay other h = absurd (true≢false (ap is_some h))
 
 -- and no `initialize` comes after the first result
 none_follow : {X : Type 0} (exited an_exit done empty start shutdown : Bool) (rows : List (Bool × Option ℕ)) → an_exit ≡ false → start ≡ true → done ≡ true
@@ -271,12 +267,11 @@ none_follow : {X : Type 0} (exited an_exit done empty start shutdown : Bool) (ro
     ∷ (true, first_row {X = ℕ} (((not done && empty) && start, None) ∷ (not done && empty, Some 401) ∷ (not done && not empty, Some 402) ∷ (shutdown, Some 405) ∷ (start, Some 404) ∷ rows))
     ∷ []) ≡ None
     → X
-none_follow true an_exit done empty start shutdown rows stay first late h = absurd (true≢false (ap is_some h))
 none_follow false true done empty start shutdown rows stay first late h = absurd (true≢false stay)
 none_follow false false false empty start shutdown rows stay first late h = absurd (true≢false (sym late))
 none_follow false false true empty false shutdown rows stay first late h = absurd (true≢false (sym first))
 none_follow false false true empty true true rows stay first late h = absurd (true≢false (ap is_some h))
-none_follow false false true empty true false rows stay first late h = absurd (true≢false (ap is_some h))
+none_follow _ _ _ empty _ _ rows stay first late h = absurd (true≢false (ap is_some h))
 
 -- ---- a request of the editor
 

@@ -118,16 +118,13 @@ read_others es fs read same =
 
 read_one : (raw : Raw) (e : Event) → Reads raw e → IsRead e
 read_one (content side bytes) (message m) p = subst (λ s. act_at s m.message ≡ Some m.act) (sym p.by) p.means
-read_one (content side bytes) (fault by rule) p = tt
-read_one (content side bytes) (snapshot uri n t) p = tt
-read_one (broken side rule) e p = subst IsRead (sym p) tt
-read_one (show n uri t) e p = subst IsRead (sym p) tt
+read_one (content side bytes) _ p = tt
+read_one _ e p = subst IsRead (sym p) tt
 
 read_all : (raws : List Raw) (es : List Event) → AllZip Reads raws es → All IsRead es
 read_all [] [] p = All-nil IsRead
-read_all [] (e ∷ es) p = absurd p
-read_all (raw ∷ raws) [] p = absurd p
 read_all (raw ∷ raws) (e ∷ es) p = All-cons IsRead e es (read_one raw e p.0) (read_all raws es p.1)
+read_all _ _ p = absurd p
 
 pub sessions_are_read : SessionsAreRead
 sessions_are_read limits records es session = read_all session.0 es session.2

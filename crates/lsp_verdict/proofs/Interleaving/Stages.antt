@@ -92,9 +92,7 @@ starts_by : (h : List Sent) (side : Side) (said : Message) (act : Act) → Stage
 starts_by h Editor (request id method params) act (fresh f) read rule none asked = (early_request h id method params act read rule f.unsettled).1
 starts_by h Editor (request id method params) act (waiting w) read rule none asked = (early_request h id method params act read rule w.unsettled).1
 starts_by h Editor (request id method params) act (settled s) read rule none asked = no_value h s none
-starts_by h Editor (notification method params) act stage read rule none asked = absurd (true≢false (sym asked))
-starts_by h Editor (response id reply) act stage read rule none asked = absurd (true≢false (sym asked))
-starts_by h Server said act stage read rule none asked = absurd (true≢false (sym asked))
+starts_by h _ _ act stage read rule none asked = absurd (true≢false (sym asked))
 
 in_turn : (h : List Sent) (id : Option Ident) (reply : Reply) (act : Act) (w : IsWaiting h) → IsNamed id w.id → AnswersInTurn h (replying id reply act)
 in_turn h None reply act w p = absurd p
@@ -113,9 +111,7 @@ replies_by : (h : List Sent) (side : Side) (said : Message) (act : Act) → Stag
 replies_by h Server (response id reply) act (fresh f) rule none replies = never id (open_rule h id reply act [] (rules h (replying id reply act) rule).on_ids f.none_open)
 replies_by h Server (response id reply) act (waiting w) rule none replies = in_turn h id reply act w (named id w.kept w.id w.same (open_rule h id reply act (w.kept ∷ []) (rules h (replying id reply act) rule).on_ids w.is_open))
 replies_by h Server (response id reply) act (settled s) rule none replies = no_value h s none
-replies_by h Server (request id method params) act stage rule none replies = absurd (true≢false (sym replies))
-replies_by h Server (notification method params) act stage rule none replies = absurd (true≢false (sym replies))
-replies_by h Editor said act stage rule none replies = absurd (true≢false (sym replies))
+replies_by h _ _ act stage rule none replies = absurd (true≢false (sym replies))
 
 pub in_each_order : HandshakeInTurn
 in_each_order = record {

@@ -18,13 +18,9 @@ use Rattle.lsp_verdict.proofs.Meanings.{yes_means_kept}
 
 no_code : (flaw : Option Flaw) (cut : Bool) → code_of flaw cut ≡ None → (flaw ≡ None) × (cut ≡ false)
 no_code None false e = (refl, refl)
-no_code None true e = absurd cc
 no_code (Some bad_line) cut e = absurd cc
-no_code (Some bad_number) cut e = absurd cc
 no_code (Some cut_short) false e = absurd cc
-no_code (Some cut_short) true e = absurd cc
-no_code (Some bad_end) cut e = absurd cc
-no_code (Some not_utf8) cut e = absurd cc
+no_code _ _ e = absurd cc
 
 -- a log without a fault is its first line and its records, and within the limit
 record IsWhole (limits : Bounds) (log : List ℕ) (format : Format) (records : List Record) : Type 0 where

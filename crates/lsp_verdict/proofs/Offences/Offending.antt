@@ -188,9 +188,8 @@ never_lost uri None other said e = kept_leaves uri other said e
 never_lost uri (Some brought) other said e = kept_leaves uri other said e
 
 last_false : (o : Option Bool) (xs : List Bool) → (o ≡ Some true → ⊥) → last_or false xs ≡ false → last_or false (cons_option o xs) ≡ false
-last_false None xs none rest = rest
-last_false (Some false) xs none rest = rest
 last_false (Some true) xs none rest = absurd (none refl)
+last_false _ xs none rest = rest
 
 none_lost : {A : Type 0} (f : List A → A → Option Bool) (front xs : List A) → ((before after : List A) (x : A) → front ++ xs ≡ before ++ x ∷ after → f before x ≡ Some true → ⊥) → last_or false (each_from f front xs) ≡ false
 none_lost f front [] none = refl
@@ -328,8 +327,7 @@ no_answer terms rule before (message m) clean =
     by_id : (o : Option Ident) → is_any_passed terms (other_side m.side) o before ≡ false
     by_id None = refl
     by_id (Some id) = none_passed terms (other_side m.side) id before clean
-no_answer terms rule before (fault side code) clean = refl
-no_answer terms rule before (snapshot uri n t) clean = refl
+no_answer terms rule before _ clean = refl
 
 follows_none : (terms : Terms) (before : List Noted) (n : Noted) (rule : ℕ) → IsClean terms before
     → follows terms before n rule ≡ false

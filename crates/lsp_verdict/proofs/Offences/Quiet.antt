@@ -99,15 +99,7 @@ quiet_act (did_open uri number text) enc kind call says = record { no_cancel = r
 quiet_act (did_change uri number edits) enc kind call says = record { no_cancel = refl; no_initialized = refl; no_shutdown = refl; no_exit = refl }
 quiet_act (did_close uri) enc kind call says = record { no_cancel = refl; no_initialized = refl; no_shutdown = refl; no_exit = refl }
 quiet_act (did_save uri text) enc kind call says = record { no_cancel = refl; no_initialized = refl; no_shutdown = refl; no_exit = refl }
-quiet_act (initialize offer) enc kind call says = some_none call says
-quiet_act initialized enc kind call says = some_none call says
-quiet_act shutdown enc kind call says = some_none call says
-quiet_act exit enc kind call says = some_none call says
-quiet_act (cancel id) enc kind call says = some_none call says
-quiet_act (progress token) enc kind call says = some_none call says
-quiet_act early enc kind call says = some_none call says
-quiet_act (register methods) enc kind call says = some_none call says
-quiet_act other enc kind call says = some_none call says
+quiet_act _ enc kind call says = some_none call says
 
 -- **what a session keeps is as before** behind a message that says something of a document
 pub leaves_session : (before : List Sent) (side : Side) (m : Message) (act : Act) (enc : Encoding) (kind : SyncKind) (call : Call) → act_at side m ≡ Some act → call_of enc kind act ≡ Some call

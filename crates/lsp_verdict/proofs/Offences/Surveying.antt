@@ -17,7 +17,7 @@ use Rattle.lsp_log.specs.declared.fault.LogCode.{LogCode}
 use Rattle.lsp_verdict.specs.Complete.{completed, IsVerdictBy}
 use Rattle.lsp_verdict.specs.Event.{Event, message, fault, snapshot, sent_in}
 use Rattle.lsp_verdict.specs.Laws.{SurveyAgrees, SomeSurvey, OneSurvey}
-use Rattle.lsp_verdict.specs.Offences.{Noted, Offence, events_of, kept_of, IsReading, IsMalformed}
+use Rattle.lsp_verdict.specs.Offences.{Noted, Offence, events_of, IsReading, IsMalformed}
 use Rattle.lsp_verdict.specs.Offences.{IsNoted, IsNotedSession}
 use Rattle.lsp_verdict.specs.Outcome.{ending, IsVerdict, log_terms}
 use Rattle.lsp_verdict.specs.Placed.{Raw, content, broken, show, Placed, Reads, joined}
@@ -61,14 +61,9 @@ lack_first (Some v) s = refl
 end_first : (c : Completeness) (events : List Event) (flaw : Option (ℕ × LogCode)) (editor server : Bool) (s : Summary)
     → first_verdict (map by_itself (first_ends flaw (rests_listed events editor server) (lacks_listed c events events))) (bad_log_of flaw) s
     ≡ verdict_by c events (unwrap_or (option_or (bad_log_of flaw) (rest_of events editor server)) (yes s))
-end_first Ignored events (Some flaw) editor server s = refl
-end_first Required events (Some flaw) editor server s = refl
-end_first Ignored events None true server s = refl
-end_first Required events None true server s = refl
 end_first Ignored events None false true s = refl
-end_first Required events None false true s = refl
-end_first Ignored events None false false s = refl
 end_first Required events None false false s = lack_first (option_map (λ rule. no_next rule who.Editor events) (incomplete (sent_in events))) s
+end_first _ events _ _ _ s = refl
 
 module _ (c : Completeness) (terms : Terms) (notes : List Noted) (end : Ending) where
   abbrev events : List Event
@@ -106,9 +101,8 @@ module _ (c : Completeness) (terms : Terms) (notes : List Noted) (end : Ending) 
 
 read_notes : (raws : List Raw) (notes : List Noted) → AllZip IsNoted raws notes → AllZip Reads raws (events_of notes)
 read_notes [] [] all = tt
-read_notes [] (n ∷ notes) all = absurd all
-read_notes (raw ∷ raws) [] all = absurd all
 read_notes (raw ∷ raws) (n ∷ notes) all = (all.0.0, read_notes raws notes all.1)
+read_notes _ _ all = absurd all
 
 module _ (limits : Bounds) (log : List ℕ) (c : Completeness) (found : List Offence) (bad : Option Verdict) (s : Summary) (p : IsSurvey c limits log found bad s) where
   abbrev plain : Verdict
@@ -162,18 +156,12 @@ one_reading bytes None (Some n) p q = absurd (p n q)
 
 some_malformed : (raw : Raw) (e : Event) → (o : Option Message) × IsMalformed raw e o
 some_malformed (content side bytes) (fault by rule) = by_rule bytes (message_or_rule bytes)
-some_malformed (content side bytes) (message m) = (None, refl)
-some_malformed (content side bytes) (snapshot uri n t) = (None, refl)
-some_malformed (broken side rule) e = (None, refl)
-some_malformed (show n uri t) e = (None, refl)
+some_malformed _ _ = (None, refl)
 
 pub one_malformed : (raw : Raw) (e : Event) (a b : Option Message) → IsMalformed raw e a
     → IsMalformed raw e b → a ≡ b
 one_malformed (content side bytes) (fault by rule) a b p q = one_reading bytes a b p q
-one_malformed (content side bytes) (message m) a b p q = p ∙ sym q
-one_malformed (content side bytes) (snapshot uri n t) a b p q = p ∙ sym q
-one_malformed (broken side rule) e a b p q = p ∙ sym q
-one_malformed (show n uri t) e a b p q = p ∙ sym q
+one_malformed _ _ a b p q = p ∙ sym q
 
 pub some_note : (raw : Raw) → (n : Noted) × IsNoted raw n
 some_note raw =
@@ -200,11 +188,10 @@ one_note raw m n p q =
 
 pub one_notes : (raws : List Raw) (ms ns : List Noted) → AllZip IsNoted raws ms → AllZip IsNoted raws ns → ms ≡ ns
 one_notes [] [] [] p q = refl
-one_notes [] [] (n ∷ ns) p q = absurd q
 one_notes [] (m ∷ ms) ns p q = absurd p
 one_notes (raw ∷ raws) [] ns p q = absurd p
-one_notes (raw ∷ raws) (m ∷ ms) [] p q = absurd q
 one_notes (raw ∷ raws) (m ∷ ms) (n ∷ ns) p q = ap (λ w. w ∷ ms) (one_note raw m n p.0 q.0) ∙ ap (λ w. n ∷ w) (one_notes raws ms ns p.1 q.1)
+one_notes _ _ _ p q = absurd q
 
 -- ---- each log has one survey
 

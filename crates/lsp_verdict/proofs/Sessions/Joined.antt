@@ -30,21 +30,19 @@ pub all_own : (side by : Side) → same_side side by ≡ true → (contents : Li
     (f g : Option ℕ) → filter (is_own side) (map (content by) contents ++ new_fault by f g)
     ≡ map (content by) contents ++ new_fault by f g
 all_own side by same [] None (Some rule) = ap (λ b. let rs : List Raw = if b then broken by rule ∷ [] else [] in rs) same
-all_own side by same [] None None = refl
-all_own side by same [] (Some rule) g = refl
 all_own side by same (bytes ∷ contents) f g =
     let rest : List Raw = map (content by) contents ++ new_fault by f g in
     ap (λ b. let rs : List Raw = if b then content by bytes ∷ filter (is_own side) rest else filter (is_own side) rest in rs) same ∙ ap (λ w. content by bytes ∷ w) (all_own side by same contents f g)
+all_own side by same [] _ _ = refl
 
 -- and nothing that the other side brings is
 pub none_own : (side by : Side) → same_side side by ≡ false → (contents : List (List ℕ))
     (f g : Option ℕ) → filter (is_own side) (map (content by) contents ++ new_fault by f g) ≡ []
 none_own side by other [] None (Some rule) = ap (λ b. let rs : List Raw = if b then broken by rule ∷ [] else [] in rs) other
-none_own side by other [] None None = refl
-none_own side by other [] (Some rule) g = refl
 none_own side by other (bytes ∷ contents) f g =
     let rest : List Raw = map (content by) contents ++ new_fault by f g in
     ap (λ b. let rs : List Raw = if b then content by bytes ∷ filter (is_own side) rest else filter (is_own side) rest in rs) other ∙ none_own side by other contents f g
+none_own side by other [] _ _ = refl
 
 brought_own : (limits : Bounds) (side by : Side) (before more : List ℕ) (now : List Raw) → same_side side by ≡ true → Brings limits by before more now → filter (is_own side) now ≡ now
 brought_own limits side by before more now same b = ap (filter (is_own side)) b.brought ∙ all_own side by same b.new_contents b.old_fault b.last_fault ∙ sym b.brought
@@ -115,21 +113,18 @@ pub own_read : (side : Side) (raw : Raw) (e : Event) → Reads raw e → is_of s
 own_read side (content by bytes) (message m) reads = ap (same_side side) reads.by
 own_read side (content by bytes) (fault other rule) reads = ap (same_side side) reads.0
 own_read side (content by bytes) (snapshot uri number text) reads = absurd reads
-own_read side (broken by rule) e reads = ap (is_of side) reads
-own_read side (show number uri text) e reads = ap (is_of side) reads
+own_read side _ e reads = ap (is_of side) reads
 
 reads_own : (side : Side) (raws : List Raw) (events : List Event) → AllZip Reads raws events → AllZip Reads (filter (is_own side) raws) (filter (is_of side) events)
 reads_own side [] [] reads = tt
-reads_own side [] (e ∷ events) reads = absurd reads
-reads_own side (raw ∷ raws) [] reads = absurd reads
 reads_own side (raw ∷ raws) (e ∷ events) reads = by_test (is_own side raw) (is_of side e) (own_read side raw e reads.0) (reads_own side raws events reads.1)
   where
     by_test : (b c : Bool) → c ≡ b → AllZip Reads (filter (is_own side) raws) (filter (is_of side) events)
         → AllZip Reads (if b then raw ∷ filter (is_own side) raws else filter (is_own side) raws) (if c then e ∷ filter (is_of side) events else filter (is_of side) events)
     by_test true true same rest = (reads.0, rest)
     by_test false false same rest = rest
-    by_test true false same rest = absurd cc
-    by_test false true same rest = absurd cc
+    by_test _ _ same rest = absurd cc
+reads_own side _ _ reads = absurd reads
 
 -- those of a side's stream
 pub own_is_stream : (limits : Bounds) → IsInRange limits → (side : Side) (records : List Record) (raws : List Raw) (contents : List (List ℕ)) (rest : List ℕ) (flaw : Option ℕ) → Placed limits records raws → IsStream limits (joined side records) contents rest flaw
@@ -155,9 +150,8 @@ snapshots_of (show number uri text ∷ raws) = snapshot uri number (chars text) 
 
 none_shown : (side : Side) (contents : List (List ℕ)) (f g : Option ℕ) (more : List Raw) → snapshots_of ((map (content side) contents ++ new_fault side f g) ++ more) ≡ snapshots_of more
 none_shown side [] None (Some rule) more = refl
-none_shown side [] None None more = refl
-none_shown side [] (Some rule) g more = refl
 none_shown side (bytes ∷ contents) f g more = none_shown side contents f g more
+none_shown side [] _ _ more = refl
 
 brought_shown : (limits : Bounds) (side : Side) (before more : List ℕ) (raws now later : List Raw) → raws ≡ now ++ later → Brings limits side before more now → snapshots_of raws ≡ snapshots_of later
 brought_shown limits side before more raws now later whole b = ap snapshots_of whole ∙ ap (λ w. snapshots_of (w ++ later)) b.brought ∙ none_shown side b.new_contents b.old_fault b.last_fault later
@@ -173,14 +167,13 @@ placed_shown limits editor server (shown number uri text ∷ rs) raws (later, wh
 
 reads_shown : (raws : List Raw) (events : List Event) → AllZip Reads raws events → filter is_snapshot events ≡ snapshots_of raws
 reads_shown [] [] reads = refl
-reads_shown [] (e ∷ events) reads = absurd reads
-reads_shown (raw ∷ raws) [] reads = absurd reads
 reads_shown (content side bytes ∷ raws) (message m ∷ events) reads = reads_shown raws events reads.1
 reads_shown (content side bytes ∷ raws) (fault by rule ∷ events) reads = reads_shown raws events reads.1
 reads_shown (content side bytes ∷ raws) (snapshot uri number text ∷ events) reads = absurd reads.0
 reads_shown (broken side rule ∷ raws) (e ∷ events) reads = ap (λ w. filter is_snapshot (w ∷ events)) reads.0 ∙ reads_shown raws events reads.1
 reads_shown (show number uri text ∷ raws) (e ∷ events) reads =
     ap (λ w. filter is_snapshot (w ∷ events)) reads.0 ∙ ap (λ w. snapshot uri number (chars text) ∷ w) (reads_shown raws events reads.1)
+reads_shown _ _ reads = absurd reads
 
 pub snapshots_are_shown : SnapshotsAreShown
 snapshots_are_shown limits records events session = reads_shown session.0 events session.2 ∙ placed_shown limits [] [] records session.0 session.1

@@ -32,11 +32,8 @@ module _ (t u : Terms) (same : t.limit ≡ u.limit) where
   -- ---- what is held doesn't depend on how many are kept
 
   revised_same : (uri : Bytes) (v : Version) (c : Call) → revised t uri v c ≡ revised u uri v c
-  revised_same uri v (opens x number text) = refl
   revised_same uri v (changes enc kind x number cs) = ap (λ l. if bytes_eq uri x then versioned number (text_or v.text (applied l enc v.text cs)) else v) same
-  revised_same uri v (closes x) = refl
-  revised_same uri v (saves x text) = refl
-  revised_same uri v (shows x number text) = refl
+  revised_same uri v _ = refl
 
   revised_by_same : (uri : Bytes) (v : Version) (cs : List Call) → revised_by t uri v cs ≡ revised_by u uri v cs
   revised_by_same uri v [] = refl
@@ -52,10 +49,7 @@ module _ (t u : Terms) (same : t.limit ≡ u.limit) where
 
   held_entry_same : (c : Call) (after : List Call) → held_entry t c after ≡ held_entry u c after
   held_entry_same (opens uri number text) after = ap (as_held uri) (held_since_same uri after (Some (versioned number text)))
-  held_entry_same (changes enc kind x number cs) after = refl
-  held_entry_same (closes x) after = refl
-  held_entry_same (saves x text) after = refl
-  held_entry_same (shows x number text) after = refl
+  held_entry_same _ after = refl
 
   pub documents_same : (calls : List Call) → documents t calls ≡ documents u calls
   documents_same [] = refl
@@ -64,12 +58,9 @@ module _ (t u : Terms) (same : t.limit ≡ u.limit) where
   -- nor what waits
 
   shown_entry_same : (all : List Call) (c : Call) (after : List Call) → shown_entry t all c after ≡ shown_entry u all c after
-  shown_entry_same all (opens uri number text) after = refl
-  shown_entry_same all (changes enc kind x number cs) after = refl
-  shown_entry_same all (closes x) after = refl
-  shown_entry_same all (saves x text) after = refl
   shown_entry_same all (shows uri number text) after =
       ap (λ h. if is_ahead number h && not (list_any (is_close uri) after) then record { uri = uri; version = versioned number text } ∷ [] else []) (held_same uri all)
+  shown_entry_same all _ after = refl
 
   waiting_in_same : (all calls : List Call) → waiting_in t all calls ≡ waiting_in u all calls
   waiting_in_same all [] = refl
@@ -105,9 +96,8 @@ none_differs ends (k ∷ ks) n text none =
     ∙ none_differs ends ks n text parts.1
 
 rows_pass : (a b : Bool) → first_row ((a, Some 701) ∷ (b, Some 702) ∷ []) ≡ None → (a ≡ false) × (b ≡ false)
-rows_pass true b e = absurd cc
-rows_pass false true e = absurd cc
 rows_pass false false e = (refl, refl)
+rows_pass _ _ e = absurd cc
 
 -- a snapshot that the held version alone lets pass
 shown_passes : (ends : LineEnds) (n : ℤ) (text : Text) (ks : List Version) (h : Option Version)
@@ -195,10 +185,6 @@ module _ (t u : Terms) (same : t.limit ≡ u.limit) (ends : t.line_ends ≡ u.li
   none_past uri before none = ap (last_of u.kept) (nothing-past u uri before none) ∙ last-empty u.kept
 
   entry_same : (before : List Call) (c : Call) (after : List Call) → AreAccepted u before → call_rule t before c ≡ None → unmatched_entry t before c after ≡ unmatched_entry u before c after
-  entry_same before (opens uri n text) after accepted e = refl
-  entry_same before (changes enc kind uri n cs) after accepted e = refl
-  entry_same before (closes uri) after accepted e = refl
-  entry_same before (saves uri text) after accepted e = refl
   entry_same before (shows uri n text) after accepted e =
       let own =
       held_here uri n text before ∙ sym (rule-none_kept t before uri n text none_kept) ∙ e in
@@ -211,6 +197,7 @@ module _ (t u : Terms) (same : t.limit ≡ u.limit) (ends : t.line_ends ≡ u.li
       ∙ ap (λ h. holds_number n h || comes_to uri n after) (held_same t u same uri before)
       ∙ ap (λ b. b || comes_to uri n after) (sym here) in
       ap (λ b. if b then 0 else 1) compared
+  entry_same before _ after accepted e = refl
 
   unmatched_from : (before after : List Call) → AreAccepted u before → AreAcceptedFrom t before after → unmatched_in t before after ≡ unmatched_in u before after
   unmatched_from before [] accepted from = refl

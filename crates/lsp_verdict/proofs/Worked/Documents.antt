@@ -62,8 +62,7 @@ one_unit_of_utf32 : kept_of (judged (under (codes "utf-32") ++ inserted (codes "
 unfolding value punctuate lex content word after_number number_of scan_numeral chars
 one_unit_of_utf32 = refl
 
-inside_a_character_of_utf16 : judged (START ++ inserted (codes "1"))
-    ≡ no 605 who.Editor 4 5
+inside_a_character_of_utf16 : judged (START ++ inserted (codes "1")) ≡ no 605 who.Editor 4 5
 unfolding value punctuate lex content word after_number number_of scan_numeral chars
 inside_a_character_of_utf16 = refl
 
@@ -138,13 +137,11 @@ opened_twice : judged (START ++ OPEN (codes "1") (codes "ab") ∷ OPEN (codes "1
 unfolding value punctuate lex content word after_number number_of scan_numeral chars
 opened_twice = refl
 
-saved_unopened : kept_of (judged (START ++ SAVE (codes "x") ∷ []))
-    ≡ kept 3 1 0 0 []
+saved_unopened : kept_of (judged (START ++ SAVE (codes "x") ∷ [])) ≡ kept 3 1 0 0 []
 unfolding value punctuate lex content word after_number number_of scan_numeral chars
 saved_unopened = refl
 
-closed_unopened : judged (START ++ CLOSE ∷ [])
-    ≡ no 602 who.Editor 3 4
+closed_unopened : judged (START ++ CLOSE ∷ []) ≡ no 602 who.Editor 3 4
 unfolding value punctuate lex content word after_number number_of scan_numeral chars
 closed_unopened = refl
 

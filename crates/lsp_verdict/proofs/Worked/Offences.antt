@@ -251,8 +251,7 @@ early_initialized : all_of (I1 ∷ N1 ∷ A1 ∷ REQ ∷ N1 ∷ REQ ∷ [])
 unfolding value punctuate lex content word after_number number_of scan_numeral chars
 early_initialized = refl
 
-no_initialized : all_of (I1 ∷ A1 ∷ REQ ∷ LOG ∷ [])
-    ≡ cause 403 who.Editor 2 3 ∷ []
+no_initialized : all_of (I1 ∷ A1 ∷ REQ ∷ LOG ∷ []) ≡ cause 403 who.Editor 2 3 ∷ []
 unfolding value punctuate lex content word after_number number_of scan_numeral chars
 no_initialized = refl
 

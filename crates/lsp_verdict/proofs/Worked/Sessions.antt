@@ -60,45 +60,37 @@ cancelled_stays_open : judged cancelled
 unfolding value punctuate lex content word after_number number_of scan_numeral chars
 cancelled_stays_open = refl
 
-cancelled_is_answered : kept_of (judged (cancelled ++ failed ∷ []))
-    ≡ kept 4 2 0 0 []
+cancelled_is_answered : kept_of (judged (cancelled ++ failed ∷ [])) ≡ kept 4 2 0 0 []
 unfolding value punctuate lex content word after_number number_of scan_numeral chars
 cancelled_is_answered = refl
 
-answered_twice : judged (cancelled ++ failed ∷ failed ∷ [])
-    ≡ no 301 who.Server 3 7
+answered_twice : judged (cancelled ++ failed ∷ failed ∷ []) ≡ no 301 who.Server 3 7
 unfolding value punctuate lex content word after_number number_of scan_numeral chars
 answered_twice = refl
 
-answered_under_a_text : judged (cancelled ++ RES (codes "\"7\"") ∷ [])
-    ≡ no 301 who.Server 2 6
+answered_under_a_text : judged (cancelled ++ RES (codes "\"7\"") ∷ []) ≡ no 301 who.Server 2 6
 unfolding value punctuate lex content word after_number number_of scan_numeral chars
 answered_under_a_text = refl
 
-answered_under_null : judged (cancelled ++ RES (codes "null") ∷ [])
-    ≡ no 301 who.Server 2 6
+answered_under_null : judged (cancelled ++ RES (codes "null") ∷ []) ≡ no 301 who.Server 2 6
 unfolding value punctuate lex content word after_number number_of scan_numeral chars
 answered_under_null = refl
 
-asked_twice : judged (START ++ REQ ∷ REQ ∷ [])
-    ≡ no 302 who.Editor 4 5
+asked_twice : judged (START ++ REQ ∷ REQ ∷ []) ≡ no 302 who.Editor 4 5
 unfolding value punctuate lex content word after_number number_of scan_numeral chars
 asked_twice = refl
 
 -- ---- the handshake
 
-early_messages : kept_of (judged (IT ∷ LOG ∷ PROG (codes "w") ∷ A1 ∷ N1 ∷ []))
-    ≡ kept 2 3 0 0 []
+early_messages : kept_of (judged (IT ∷ LOG ∷ PROG (codes "w") ∷ A1 ∷ N1 ∷ [])) ≡ kept 2 3 0 0 []
 unfolding value punctuate lex content word after_number number_of scan_numeral chars
 early_messages = refl
 
-progress_under_another_token : judged (IT ∷ PROG (codes "v") ∷ [])
-    ≡ no 412 who.Server 1 2
+progress_under_another_token : judged (IT ∷ PROG (codes "v") ∷ []) ≡ no 412 who.Server 1 2
 unfolding value punctuate lex content word after_number number_of scan_numeral chars
 progress_under_another_token = refl
 
-request_while_waiting : judged (I1 ∷ REQ ∷ [])
-    ≡ no 402 who.Editor 2 2
+request_while_waiting : judged (I1 ∷ REQ ∷ []) ≡ no 402 who.Editor 2 2
 unfolding value punctuate lex content word after_number number_of scan_numeral chars
 request_while_waiting = refl
 
@@ -134,23 +126,19 @@ registers_synchronisation = refl
 
 -- ---- the lifecycle
 
-request_before_initialize : judged (REQ ∷ [])
-    ≡ no 401 who.Editor 1 1
+request_before_initialize : judged (REQ ∷ []) ≡ no 401 who.Editor 1 1
 unfolding value punctuate lex content word after_number number_of scan_numeral chars
 request_before_initialize = refl
 
-server_before_initialize : judged (LOG ∷ [])
-    ≡ no 411 who.Server 1 1
+server_before_initialize : judged (LOG ∷ []) ≡ no 411 who.Server 1 1
 unfolding value punctuate lex content word after_number number_of scan_numeral chars
 server_before_initialize = refl
 
-request_before_initialized : judged (I1 ∷ A1 ∷ REQ ∷ [])
-    ≡ no 403 who.Editor 2 3
+request_before_initialized : judged (I1 ∷ A1 ∷ REQ ∷ []) ≡ no 403 who.Editor 2 3
 unfolding value punctuate lex content word after_number number_of scan_numeral chars
 request_before_initialized = refl
 
-initialized_twice : judged (START ++ N1 ∷ [])
-    ≡ no 404 who.Editor 3 4
+initialized_twice : judged (START ++ N1 ∷ []) ≡ no 404 who.Editor 3 4
 unfolding value punctuate lex content word after_number number_of scan_numeral chars
 initialized_twice = refl
 
@@ -159,20 +147,17 @@ request_after_shutdown : judged (START ++ OPEN (codes "1") (codes "ab") ∷ T 1 
 unfolding value punctuate lex content word after_number number_of scan_numeral chars
 request_after_shutdown = refl
 
-exit_twice : judged (whole ++ EX ∷ [])
-    ≡ no 406 who.Editor 6 9
+exit_twice : judged (whole ++ EX ∷ []) ≡ no 406 who.Editor 6 9
 unfolding value punctuate lex content word after_number number_of scan_numeral chars
 exit_twice = refl
 
 -- ---- contents
 
-no_json : judged (E (codes "{") ∷ [])
-    ≡ no 201 who.Editor 1 1
+no_json : judged (E (codes "{") ∷ []) ≡ no 201 who.Editor 1 1
 unfolding value punctuate lex content word after_number number_of scan_numeral chars
 no_json = refl
 
-no_object : judged (E (codes "[]") ∷ [])
-    ≡ no 202 who.Editor 1 1
+no_object : judged (E (codes "[]") ∷ []) ≡ no 202 who.Editor 1 1
 unfolding value punctuate lex content word after_number number_of scan_numeral chars
 no_object = refl
 

@@ -10,8 +10,7 @@ pub returns-in-Broken : goal.returns-in-Broken
 returns-in-Broken g c =
     rw c.in-Broken.is (λ before counted. (refl, (_, refl, c.no_next.ensures before counted)))
 
-pub returns-in_ok-write_snapshot-in-Snapshot :
-    goal.returns-in_ok-write_snapshot-in-Snapshot
+pub returns-in_ok-write_snapshot-in-Snapshot : goal.returns-in_ok-write_snapshot-in-Snapshot
 returns-in_ok-write_snapshot-in-Snapshot g c =
     let s = c.in-Snapshot in
     let fits : SFits w32 c.in-Snapshot.version = search rules in

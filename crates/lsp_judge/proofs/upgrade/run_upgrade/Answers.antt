@@ -130,8 +130,7 @@ write_record-requires g c =
     subst (Fits profile) (sym c.in_ok-copy-in-Record.ensures)
     (record_fits _ _ _ u.records (record_view c.in-Record.record) u.next_is.at)
 
-pub returns-in_err-write_record-in-Ok :
-    goal.returns-in_err-write_record-in-Ok
+pub returns-in_err-write_record-in-Ok : goal.returns-in_err-write_record-in-Ok
 returns-in_err-write_record-in-Ok g c =
     let u = rw c.in-Record.is at c.loop-next.invariant in
     let from = c.from_residual-in_err-write_record-in-Ok in

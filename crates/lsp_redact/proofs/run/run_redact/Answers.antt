@@ -1,4 +1,4 @@
-use Rattle.std.proofs.Common.{ap, map, refl, subst, ◌∙◌}
+use Rattle.std.proofs.Common.{ap, map, refl, subst}
 use Rattle.lsp_frame.specs.Bounds.{Bounds}
 use Rattle.lsp_replay.specs.Run.{Passes}
 use Rattle.lsp_redact.specs.Redacting.{redact_run}

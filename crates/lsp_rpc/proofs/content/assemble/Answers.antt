@@ -5,9 +5,8 @@ use Rattle.lsp_rpc.proofs.content.assemble.Goals as goal
 
 -- the least of the first two rules is that of all
 least_of_all : (a b : ℕ × Bool) (rest : List (ℕ × Bool)) (rule : ℕ) → least_broken (a ∷ b ∷ []) ≡ Some rule → least_broken (a ∷ b ∷ rest) ≡ Some rule
-least_of_all (r, true) b rest rule h = h
-least_of_all (r, false) (s, true) rest rule h = h
 least_of_all (r, false) (s, false) rest rule h = absurd (cc)
+least_of_all _ _ rest rule h = h
 
 pub returns-in_err-method-clause-rule : goal.returns-in_err-method-clause-rule
 returns-in_err-method-clause-rule c =

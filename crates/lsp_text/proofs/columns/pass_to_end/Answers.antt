@@ -14,8 +14,7 @@ units_in_both-behind-requires-clause-second c =
     (omega (arith, c.if-at-lt64.false, c.loop-behind.invariant.within))
 
 pub loop-behind-init : goal.loop-behind-init
-loop-behind-init c =
-    last_passed c.args.encoding c.args.bytes.now c.args.width c.requires.width
+loop-behind-init c = last_passed c.args.encoding c.args.bytes.now c.args.width c.requires.width
 
 pub loop-behind-preserved : goal.loop-behind-preserved
 loop-behind-preserved c =

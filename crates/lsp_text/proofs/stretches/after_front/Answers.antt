@@ -7,8 +7,7 @@ use Rattle.lsp_text.proofs.stretches.after_front.Goals as goal
 -- what the bytes of two texts are to each other, the texts are
 of_texts : (t f text front : List ℕ) → t ≡ text → f ≡ front → t ≡ f ++ drop (length f) t
     → text ≡ front ++ drop (length front) text
-of_texts t f text front is also all =
-    sym is ∙ all ∙ ap₂ (λ p q. p ++ drop (length p) q) also is
+of_texts t f text front is also all = sym is ∙ all ∙ ap₂ (λ p q. p ++ drop (length p) q) also is
 
 pub returns-then-not-begins_with : goal.returns-then-not-begins_with
 returns-then-not-begins_with c =

@@ -11,8 +11,7 @@ use Rattle.lsp_words.proofs.commands.command_line.Goals as goal
 third_is_false : (a b g rest : Bool) → (a && (b && (not g && rest))) ≡ true → g ≡ false
 third_is_false true true false rest e = refl
 third_is_false true true true rest e = sym e
-third_is_false true false g rest e = absurd (true≢false (sym e))
-third_is_false false b g rest e = absurd (true≢false (sym e))
+third_is_false _ _ g rest e = absurd (true≢false (sym e))
 
 -- a command whose words are read plainly has no global argument
 is_local : (c : Command) (s : Shape) → shape_of c ≡ s → s.is_plain ≡ true → (out-Command c).has_globals ≡ false
