@@ -19,4 +19,3 @@ pub mod Setters
 pub mod Unmatched
 pub mod Others
 pub mod Trying
-pub mod Sessions

@@ -5,6 +5,5 @@ pub mod Counts
 pub mod OneForm
 pub mod Ends
 pub mod Logs
-pub mod Rows
 pub mod Again
 pub mod Verdicts

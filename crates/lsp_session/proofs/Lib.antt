@@ -5,6 +5,4 @@ pub mod Steps
 pub mod ByStateLemmas
 pub mod LawLemmas
 pub mod LeastRuleLemmas
-pub mod SessionMessages
-pub mod Sessions
 pub mod Unread

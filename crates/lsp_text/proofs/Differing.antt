@@ -1,6 +1,5 @@
 -- Where two texts first differ, and the lines, positions and characters in which places lie.
 pub mod Differences
-pub mod WorkedDifferences
 pub mod LineStarts
 pub mod LinePlaces
 pub mod PlacePositions

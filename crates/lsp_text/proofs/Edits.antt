@@ -1,4 +1,2 @@
--- Edits of a text, one after another, and worked ones.
+-- Edits of a text, one after another.
 pub mod Applied
-pub mod Vectors
-pub mod Found

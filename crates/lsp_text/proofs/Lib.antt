@@ -17,7 +17,6 @@ pub mod LineEnds
 pub mod SameTexts
 pub mod SameBytes
 pub mod SameByLines
-pub mod WorkedSameTexts
 pub mod Differing
 pub mod FoundChanges
 pub mod Spans

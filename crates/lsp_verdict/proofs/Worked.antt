@@ -1,9 +1,3 @@
--- Worked sessions and tables, each checked by computing it.
+-- Worked sessions, each checked by computing it.
 pub mod Templates
-pub mod Sessions
-pub mod Documents
-pub mod Reports
-pub mod Shown
-pub mod Texts
 pub mod Interleavings
-pub mod Offences

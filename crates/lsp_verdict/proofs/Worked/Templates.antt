@@ -1,9 +1,8 @@
 -- The contents of the worked sessions, as JSON text, and the events that they are read as.
 use Rattle.std.proofs.Common.{ℕ, ◌∷◌, [], List, ◌++◌}
-use Rattle.std.specs.Prelude.{ℤ, pos, codes, Option, Some, None, Bool, map}
+use Rattle.std.specs.Prelude.{pos, codes, Option, Some, None}
 use Rattle.serde_json.specs.Data.{Data}
 use Rattle.serde_json.specs.Read.{read}
-use Rattle.lsp_rpc.specs.Ident.{Ident}
 use Rattle.lsp_rpc.specs.Message.{Message}
 use Rattle.lsp_rpc.specs.Act.{Act}
 use Rattle.lsp_rpc.specs.Reading.{broken_rule, message_in, parts_of}
@@ -11,14 +10,9 @@ use Rattle.lsp_rpc.specs.Params.{act_at}
 use Rattle.lsp_types.specs.declared.side.Side.{Side}
 use Rattle.lsp_types.specs.declared.side.Side.TheVariants.{Editor, Server}
 use Rattle.lsp_verdict.specs.Event.{Event, message, fault, snapshot}
-use Rattle.lsp_types.specs.declared.position.Encoding.{Encoding}
-use Rattle.lsp_types.specs.declared.position.Encoding.TheVariants.{Utf16}
-use Rattle.lsp_types.specs.declared.change.SyncKind.{SyncKind}
-use Rattle.lsp_types.specs.declared.change.SyncKind.TheVariants.{Incremental}
 use Rattle.lsp_types.specs.declared.line_ends.LineEnds.TheVariants.{Exact}
 use Rattle.lsp_docs.specs.Documents.{Terms}
-use Rattle.lsp_verdict.specs.Shown.{TextAnswer, text_answer, up_to_editor}
-use Rattle.lsp_verdict.specs.Verdict.{Ending, Verdict, verdict, yes}
+use Rattle.lsp_verdict.specs.Verdict.{Verdict, verdict}
 use Rattle.lsp_verdict.specs.Interleaving.{complete}
 
 abbrev with_act : Side → Message → Option Act → Event
@@ -132,47 +126,9 @@ T version text = snapshot (codes "file:///a") (pos version) text
 
 -- ---- sessions
 
--- format 1 with this limit
-abbrev pub limited : ℕ → Terms
-limited limit = record { limit = limit; kept = 0; line_ends = Exact }
-
+-- format 1
 abbrev pub terms : Terms
-terms = limited 16777216
+terms = record { limit = 16777216; kept = 0; line_ends = Exact }
 
 abbrev pub judged : List Event → Verdict
 judged events = verdict terms events complete
-
--- what is said of a session that keeps the rules: counts, what was agreed, documents by version and
--- bytes, and open requests with whether they are cancelled
-pub record Kept : Type 0 where
-  pub editor : ℕ
-  pub server : ℕ
-  pub snapshots : ℕ
-  pub unmatched : ℕ
-  pub encoding : Option Encoding
-  pub sync : Option SyncKind
-  pub documents : List (ℤ × ℕ)
-  pub requests : List (Ident × Bool)
-
-abbrev pub kept_of : Verdict → Option Kept
-kept_of (yes s) = Some (record {
-  editor = s.editor;
-  server = s.server;
-  snapshots = s.snapshots;
-  unmatched = s.unmatched;
-  encoding = s.encoding;
-  sync = s.sync;
-  documents = map (λ d. (d.number, d.bytes)) s.documents;
-  requests = map (λ r. (r.1.id, r.1.cancelled)) s.requests;
-})
-kept_of _ = None
-
--- the same under utf-16 and changes in parts, with no open request
-abbrev pub kept : ℕ → ℕ → ℕ → ℕ → List (ℤ × ℕ) → Option Kept
-kept editor server snapshots unmatched documents =
-    Some (record { editor = editor; server = server; snapshots = snapshots; unmatched = unmatched; encoding = Some Utf16; sync = Some Incremental; documents = documents; requests = [] })
-
--- ---- the text after a message
-
-abbrev pub text_after : Terms → ℕ → List ℕ → List Event → Ending → TextAnswer
-text_after terms n uri events end = text_answer terms uri (verdict terms events end) (up_to_editor n [] events)
