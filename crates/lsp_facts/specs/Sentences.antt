@@ -76,9 +76,9 @@ rows =
     ∷ says (codes "lines-by ecmascript\n") []
     (codes "The editor seems to end lines at U+2028 and U+2029, too; LSP does not.")
     ∷ says (codes "lines-by python\n") []
-    (codes "The editor seems to end lines as splitlines of Python does; LSP has fewer line ends.")
+    (codes "The editor seems to split lines like Python's splitlines; LSP has fewer line ends.")
     ∷ says (codes "at-once ") []
-    (codes "The editor may count all ranges of a message in the text before it.")
+    (codes "The editor may compute all ranges of a message against the text before that message.")
     ∷ says (codes "exchanged ") []
     (codes "The editor may have sent two messages in the wrong order.")
     ∷ says (codes "without ") [] (codes "The editor may have sent a change that it did not make.")
@@ -95,10 +95,10 @@ rows =
     ∷ says (codes "suspects 1\n") (codes "equal ")
     (codes "Either one message is wrong, or one change was never sent.")
     ∷ says (codes "header-ends lf\n") []
-    (codes "A header line ends with LF alone; it has to end with CR LF.")
+    (codes "A header line ends with LF alone; it must end with CR LF.")
     ∷ says (codes "counts ") []
-    (codes "The header seems to count characters; it has to count bytes.")
-    ∷ says (codes "whole ") [] (codes "The header says fewer bytes than the content has.")
+    (codes "Content-Length seems to count characters; it must count bytes.")
+    ∷ says (codes "whole ") [] (codes "Content-Length is smaller than the content.")
     ∷ says (codes "same ") [] (codes "The editor sent the same changes twice.")
     ∷ says (codes "precedes ") []
     (codes "The editor seems to have sent two messages in the wrong order.")

@@ -110,12 +110,12 @@ pub(crate) const ROWS: [Row; 42] = [
     (
         "lines-by python\n",
         "",
-        "The editor seems to end lines as splitlines of Python does; LSP has fewer line ends.",
+        "The editor seems to split lines like Python's splitlines; LSP has fewer line ends.",
     ),
     (
         "at-once ",
         "",
-        "The editor may count all ranges of a message in the text before it.",
+        "The editor may compute all ranges of a message against the text before that message.",
     ),
     (
         "exchanged ",
@@ -161,17 +161,17 @@ pub(crate) const ROWS: [Row; 42] = [
     (
         "header-ends lf\n",
         "",
-        "A header line ends with LF alone; it has to end with CR LF.",
+        "A header line ends with LF alone; it must end with CR LF.",
     ),
     (
         "counts ",
         "",
-        "The header seems to count characters; it has to count bytes.",
+        "Content-Length seems to count characters; it must count bytes.",
     ),
     (
         "whole ",
         "",
-        "The header says fewer bytes than the content has.",
+        "Content-Length is smaller than the content.",
     ),
     ("same ", "", "The editor sent the same changes twice."),
     (

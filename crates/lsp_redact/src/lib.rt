@@ -1,5 +1,5 @@
-//! A log with its words replaced, for who may not show their sources: of each message what the
-//! rules read, names as numbers, and characters as others of their kind.
+//! A log with its words replaced, for those who may not show their sources: of each message what
+//! the rules read, names as numbers, and characters as others of their kind.
 //!
 //! [`run_redact`] reads a log up to its verdict, and writes one that shows it. It is an account
 //! (`Redacting`) over the one `pass` of `lsp_replay`, which keeps what is read of each message

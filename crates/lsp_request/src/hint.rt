@@ -54,7 +54,7 @@ impl fmt::Display for Hint {
             Hint::ByteOrderMark => "the input begins with a byte order mark; a log has none",
             Hint::OtherFormat => "this version of lspcheck does not know the format of this log",
             Hint::Compressed => "the input is compressed: unpack it first",
-            Hint::Trace => "this looks like a trace: 'recorders/from-trace' makes a log of it",
+            Hint::Trace => "this looks like a trace: 'recorders/from-trace FILE' makes a log of it",
             Hint::Unknown => "a log begins with the line 'lsp-session 2': see docs/LOG_FORMAT.md",
             Hint::NoHeader => "a raw stream begins with a header part: 'Content-Length: 52'",
             Hint::OtherDocuments => "'lspcheck show --long' shows the URI of each document",

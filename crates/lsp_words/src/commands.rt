@@ -40,7 +40,8 @@ Exit status:
   6 can't be redacted  64 bad arguments
 
 The repository describes the rules in docs/RULES.md, the lines of a report in docs/REPORT.md, how to
-record a session in docs/RECORDERS.md, and the format of a log in docs/LOG_FORMAT.md.";
+record a session in docs/RECORDERS.md, and the format of a log in docs/LOG_FORMAT.md. In a package,
+'man lspcheck' says where these are.";
 
 /// The greatest number of a message or an event that can be asked for: no log has more of them than
 /// bytes.
