@@ -7,8 +7,7 @@ use Rattle.lsp_verdict.specs.Runs.{failures_written as sink_failures}
 use Rattle.lsp_verdict.specs.declared.outcome.Outcome.{Outcome}
 use Rattle.lsp_verdict.specs.declared.outcome.RunFault.{RunFault}
 use Rattle.lsp_replay.specs.Run.{PassesOn, Run}
-use Rattle.lsp_command.specs.Tasks.{Answers, RanTask}
-use Rattle.lsp_command.specs.Tasks.{of_event, of_run}
+use Rattle.lsp_command.specs.Tasks.{Answers, RanTask, of_event, of_run}
 use Rattle.lsp_request.specs.declared.command_line.task.Task.{Task}
 use Rattle.lsp_request.specs.declared.task_outcome.TaskOutcome.{TaskOutcome}
 

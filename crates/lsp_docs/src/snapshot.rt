@@ -1,7 +1,6 @@
 //! Snapshots, and how they compare with a text.
 
-ghost use Rattle.std.specs.Prelude.{◌≡◌, [], ◌++◌, ◌∷◌, length, not, IfOk, OnOk};
-ghost use Rattle.std.specs.Prelude.{OnErr, unwrap_or};
+ghost use Rattle.std.specs.Prelude.{◌≡◌, [], ◌++◌, ◌∷◌, length, not, IfOk, OnOk, OnErr, unwrap_or};
 ghost use Rattle.std.specs.List.{list_any};
 ghost use Rattle.std.specs.Option.{option_copied};
 ghost use Rattle.std.specs.Str.{chars};

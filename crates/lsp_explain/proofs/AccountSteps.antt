@@ -21,9 +21,8 @@ use Rattle.lsp_verdict.specs.Verdict.{Verdict, no_by}
 use Rattle.lsp_verdict.specs.declared.completeness.Completeness.{Completeness}
 use Rattle.lsp_verdict.specs.declared.outcome.Outcome.TheVariants.{Judged}
 use Rattle.lsp_verdict.specs.declared.verdict.Verdict as code
-use Rattle.lsp_explain.specs.ExplainRuns.{AllStands, FirstStands, SaysCauses, SaysFirst}
-use Rattle.lsp_explain.specs.ExplainRuns.{all_run, cause_at, explain_run, first_lines, has_cause}
-use Rattle.lsp_explain.specs.ExplainRuns.{may_keep}
+use Rattle.lsp_explain.specs.ExplainRuns.{AllStands, FirstStands, SaysCauses, SaysFirst, all_run}
+use Rattle.lsp_explain.specs.ExplainRuns.{cause_at, explain_run, first_lines, has_cause, may_keep}
 use Rattle.lsp_origins.specs.Explained.{cause_lines, is_cause, TellsOf}
 use Rattle.lsp_notes.specs.MessageNotes.{AreNoted}
 use Rattle.lsp_notes.specs.Misfits.{AreMisfits, found_kept}

@@ -44,8 +44,7 @@ use Rattle.lsp_verdict.specs.declared.verdict.Who.TheVariants as who
 use Rattle.lsp_verdict.proofs.Finding.{map_one}
 use Rattle.lsp_facts.specs.Fact.{Fact}
 use Rattle.lsp_facts.specs.EventFacts.{flaw_facts}
-use Rattle.lsp_explain.specs.ExplainRuns.{all_run, end_verdict, ends_said}
-use Rattle.lsp_explain.specs.ExplainRuns.{explain_run}
+use Rattle.lsp_explain.specs.ExplainRuns.{all_run, end_verdict, ends_said, explain_run}
 use Rattle.lsp_origins.specs.Explained.{all_closing, cause_lines, Explained, end_explained}
 use Rattle.lsp_origins.specs.Explained.{explanation, flaw_lines, said_of}
 use Rattle.lsp_origins.specs.Explained.{flaw_held, rests_held, flaw_at}

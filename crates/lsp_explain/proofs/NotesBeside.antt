@@ -7,8 +7,7 @@ use Rattle.lsp_replay.specs.Run.{EndsAfter, IsPassed, SaysAll, StopsIn}
 use Rattle.lsp_verdict.specs.Heard.{Heard, Rests}
 use Rattle.lsp_verdict.specs.Outcome.{log_terms}
 use Rattle.lsp_verdict.specs.declared.completeness.Completeness.{Completeness}
-use Rattle.lsp_notes.specs.AllNotes.{AreNotes, kinds}
-use Rattle.lsp_notes.specs.AllNotes.{noticed_along, notes_at}
+use Rattle.lsp_notes.specs.AllNotes.{AreNotes, kinds, noticed_along, notes_at}
 use Rattle.lsp_explain.specs.ExplainRuns.{all_run}
 use Rattle.lsp_explain.specs.NotedRun.{HaveNotes, NotesAreBeside, Passage, noted_of, noted_run}
 use Rattle.lsp_explain.specs.NotedRun.{noted_verdict, number_of, plain_of}

@@ -19,8 +19,7 @@ use Rattle.lsp_verdict.specs.Offences.{events_of, kept_of, rule_at}
 use Rattle.lsp_verdict.specs.Verdict.{Verdict, no_by, summary}
 use Rattle.lsp_verdict.specs.declared.completeness.Completeness.{Completeness}
 use Rattle.lsp_verdict.specs.declared.outcome.Outcome.{Outcome}
-use Rattle.lsp_notes.specs.AllNotes.{end_notes, notes_at}
-use Rattle.lsp_notes.specs.AllNotes.{noticed_along}
+use Rattle.lsp_notes.specs.AllNotes.{end_notes, notes_at, noticed_along}
 use Rattle.lsp_explain.specs.ExplainLaws.{OneExplanation, OneExplanationOfAll, OneNotedExplanation}
 use Rattle.lsp_explain.specs.ExplainRuns.{SaysCauses, SaysFirst, all_end, all_run, cause_at}
 use Rattle.lsp_explain.specs.ExplainRuns.{end_explanation, end_verdict, explain_run, first_lines}

@@ -14,8 +14,7 @@ ghost use Rattle.lsp_verdict.specs.Runs.{ports};
 ghost use Rattle.lsp_verdict.specs.Survey.{by_itself};
 ghost use Rattle.lsp_verdict.specs.Verdict.{bad_log_of, first_no, summary};
 ghost use Rattle.lsp_verdict.specs.declared.completeness.Completeness.{Completeness};
-ghost use Rattle.lsp_explain.specs.ExplainRuns.{FirstStands, end_verdict};
-ghost use Rattle.lsp_explain.specs.ExplainRuns.{ends_said, explain_run};
+ghost use Rattle.lsp_explain.specs.ExplainRuns.{FirstStands, end_verdict, ends_said, explain_run};
 ghost use Rattle.lsp_origins.specs.Explained.{explanation, flaw_held, rests_held};
 ghost use Rattle.lsp_trail.specs.Trails.{IsTrail};
 

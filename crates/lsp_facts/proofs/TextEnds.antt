@@ -1,6 +1,5 @@
 -- Where a JSON text ends, byte by byte, and how much of it lies behind a content.
-use Rattle.std.specs.Prelude.{if◌then◌else◌, nat_lt, option_and_then, option_map, suc}
-use Rattle.std.specs.Prelude.{MatchResult}
+use Rattle.std.specs.Prelude.{if◌then◌else◌, nat_lt, option_and_then, option_map, suc, MatchResult}
 use Rattle.std.specs.Bool.{then_some}
 use Rattle.std.specs.Result.{result_ok}
 use Rattle.std.specs.Str.{IsUtf8, is_utf8}

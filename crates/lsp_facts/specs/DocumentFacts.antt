@@ -1,9 +1,7 @@
 -- The facts on a call that breaks a rule on documents: 601 to 608, 701, 702.
-use Rattle.std.specs.Prelude.{List, [], ◌∷◌, ◌++◌, slice_get, Bool, false, is_some}
-use Rattle.std.specs.Prelude.{◌==◌}
-use Rattle.std.specs.Prelude.{if◌then◌else◌, option_map, ◌≡◌, ◌⊎◌, ◌+◌, ℕ, ℤ, length}
-use Rattle.std.specs.Prelude.{take, map, Option, Some, None, option_to_list, Result, Ok}
-use Rattle.std.specs.Prelude.{Err, codes, decimal}
+use Rattle.std.specs.Prelude.{List, [], ◌∷◌, ◌++◌, slice_get, Bool, false, is_some, ◌==◌}
+use Rattle.std.specs.Prelude.{if◌then◌else◌, option_map, ◌≡◌, ◌⊎◌, ◌+◌, ℕ, ℤ, length, take, map}
+use Rattle.std.specs.Prelude.{Option, Some, None, option_to_list, Result, Ok, Err, codes, decimal}
 use Rattle.std.specs.Fmt.{signed_decimal}
 use Rattle.std.specs.List.{flat_map, prefix_len}
 use Rattle.lsp_types.specs.declared.position.Encoding.{Encoding}

@@ -168,11 +168,7 @@ pub(crate) const ROWS: [Row; 42] = [
         "",
         "Content-Length seems to count characters; it must count bytes.",
     ),
-    (
-        "whole ",
-        "",
-        "Content-Length is smaller than the content.",
-    ),
+    ("whole ", "", "Content-Length is smaller than the content."),
     ("same ", "", "The editor sent the same changes twice."),
     (
         "precedes ",

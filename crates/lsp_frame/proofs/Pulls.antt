@@ -7,9 +7,9 @@ use Rattle.lsp_frame.specs.Told.{Told, Gave}
 use Rattle.std.specs.Prelude.{is_some, max}
 use Rattle.lsp_frame.proofs.Telling.{gave_nothing, take_written}
 use Rattle.lsp_frame.specs.Decoder.{State, FitsIn, pushed, taken, taken_at, room_for}
+use Rattle.lsp_frame.specs.Decoder.{StandsFor, RestAt}
 use Rattle.lsp_frame.specs.Pulling.{Pulls}
 use Rattle.lsp_frame.proofs.Steps.{state_at, taken_stands, push_stands}
-use Rattle.lsp_frame.specs.Decoder.{StandsFor, RestAt}
 use Rattle.lsp_frame.proofs.Starts.{header_stays}
 use Rattle.lsp_frame.specs.Buffer.{AheadStands, FaultStands}
 use Rattle.lsp_frame.specs.declared.start.FrameSize.{FrameSize}

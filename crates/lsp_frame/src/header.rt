@@ -1,6 +1,5 @@
 //! What a header part says about its content (LSP 3.17, "Header Part").
-ghost use Rattle.std.specs.Prelude.{◌≡◌, ℕ, List, [], ◌∷◌, ◌++◌, length, true, ◌&&◌};
-ghost use Rattle.std.specs.Prelude.{IfSome};
+ghost use Rattle.std.specs.Prelude.{◌≡◌, ℕ, List, [], ◌∷◌, ◌++◌, length, true, ◌&&◌, IfSome};
 ghost use Rattle.std.specs.List.{list_all};
 ghost use Rattle.lsp_frame.specs.Header.{lengths, is_number, length_of, content_length};
 ghost use Rattle.lsp_frame.specs.Header.{is_utf8_name, fits_charset, parts, fits_charsets};

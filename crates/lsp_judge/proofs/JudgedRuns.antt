@@ -2,8 +2,7 @@
 use Rattle.std.specs.Prelude.{is_some, option_map}
 use Rattle.std.proofs.Common.{◌≡◌, ◌∙◌, ℕ, List, Option, Some, ap, refl, subst, sym}
 use Rattle.lsp_judge.specs.JudgingLaws.{JudgingAnswersVerdict, OneJudgingOutput}
-use Rattle.lsp_judge.specs.JudgingRun.{completed_by, due_for, judging_run, said_by}
-use Rattle.lsp_judge.specs.JudgingRun.{verdict_of}
+use Rattle.lsp_judge.specs.JudgingRun.{completed_by, due_for, judging_run, said_by, verdict_of}
 use Rattle.lsp_judge.proofs.JudgingRuns.{gives}
 use Rattle.lsp_judge.proofs.Told.{ends_verdict}
 use Rattle.lsp_replay.specs.Run.{IsJudged}

@@ -10,8 +10,8 @@ use Rattle.lsp_frame.specs.declared.format.Format.{Format}
 use Rattle.lsp_log.specs.Log.{Record}
 use Rattle.lsp_judge.specs.Checked.{IsCut, WritesVerdict}
 use Rattle.lsp_judge.specs.JudgingRun.{Form, JudgingAsked, a_report, due_for, judging_run, said_by}
-use Rattle.lsp_replay.specs.Lines.{shown_line}
 use Rattle.lsp_judge.specs.JudgingRun.{verdict_of}
+use Rattle.lsp_replay.specs.Lines.{shown_line}
 use Rattle.lsp_judge.specs.ShownLog.{BeginsShown, IsShown, Showed}
 use Rattle.lsp_judge.proofs.Told.{EndsBy, ends_verdict, told_end, told_no}
 use Rattle.lsp_replay.specs.Run.{DueAt, Passes, EndsAfter, HasSaid, IsJudged, IsPassed, IsTold}

@@ -1,7 +1,6 @@
 -- Where `check` and `show` want no memory, they say nothing.
 use Rattle.std.specs.Prelude.{◌||◌, is_some}
-use Rattle.std.proofs.Common.{◌≡◌, true, false, List, [], Option, Some, None, refl}
-use Rattle.std.proofs.Common.{◌∙◌}
+use Rattle.std.proofs.Common.{◌≡◌, true, false, List, [], Option, Some, None, refl, ◌∙◌}
 use Rattle.lsp_judge.specs.JudgingRun.{JudgingAsked, judging_run, said_by}
 use Rattle.lsp_replay.specs.JsonRun.{IsQuiet}
 use Rattle.lsp_replay.specs.Lines.{shown_line}

@@ -1,14 +1,12 @@
 -- The bytes at the end of parts that a text ends with too.
 use Rattle.std.proofs.Common.{◌≡◌, ◌<◌, ◌≤◌, ◌+◌, ◌-◌, ℕ, List, ◌++◌, length, map, take, drop}
-use Rattle.std.proofs.Common.{get_or}
-use Rattle.std.proofs.Common.{sym, ap, ap₂, subst, ⊎_elim, ◌∙◌, arith}
-use Rattle.std.proofs.Common.{zero, suc, length-append, length-drop}
+use Rattle.std.proofs.Common.{get_or, sym, ap, ap₂, subst, ⊎_elim, ◌∙◌, arith, zero, suc}
+use Rattle.std.proofs.Common.{length-append, length-drop}
 use Rattle.std.proofs.lemmas.Bool.{cases_lt}
 use Rattle.std.proofs.lemmas.List.{take-append-drop, drop_all, drop-append-le, drop-drop}
 use Rattle.std.proofs.lemmas.List.{length-map}
 use Rattle.std.specs.Str.{IsUtf8, IsCharBoundary}
-use Rattle.std.proofs.lemmas.Str.{IsCharBoundary-start}
-use Rattle.std.proofs.lemmas.Str.{IsCharBoundary-from_rest}
+use Rattle.std.proofs.lemmas.Str.{IsCharBoundary-start, IsCharBoundary-from_rest}
 use Rattle.lsp_text.specs.Parting.{AreSameFrom}
 use Rattle.lsp_lined.specs.Parts.{joined, part_at, AreParts}
 use Rattle.lsp_lined.specs.Sums.{sums_of}

@@ -24,8 +24,8 @@ use Rattle.lsp_text.proofs.Widths.{place_in_line-append, is_front}
 use Rattle.lsp_lined.specs.Ends.{IsNear}
 use Rattle.lsp_lined.specs.Steps.{line_bytes, line_number}
 use Rattle.lsp_lined.specs.LentLines.{IsOffsetFrom, NoOffsetFrom, IsOffsetIn}
-use Rattle.lsp_text.specs.Spans.{bytes_between}
 use Rattle.lsp_lined.specs.LentLines.{NoOffsetIn, IsHeldLine, IsLentLine}
+use Rattle.lsp_text.specs.Spans.{bytes_between}
 use Rattle.lsp_lined.specs.Windows.{pieces_of, text_with}
 use Rattle.lsp_lined.specs.declared.lined.lines.LentLine.{LentLine}
 use Rattle.lsp_lined.proofs.PartPlaces.{place_in_line-before}

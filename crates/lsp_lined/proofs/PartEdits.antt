@@ -1,8 +1,7 @@
 -- An edit of one of some parts.
 use Rattle.std.proofs.Common.{◌≡◌, ◌<◌, ◌≤◌, ◌^◌, ℕ, Bool, true, false, List, length, map, take, get_or, set, sym, ap, subst, ◌∙◌, arith}
 use Rattle.std.specs.List.{replace_range}
-use Rattle.std.proofs.lemmas.List.{length-map, length-take-le, map-set}
-use Rattle.std.proofs.lemmas.List.{length-set, get_or-set_same}
+use Rattle.std.proofs.lemmas.List.{length-map, length-take-le, map-set, length-set, get_or-set_same}
 use Rattle.std.proofs.Math.Seq.{map-set_same}
 use Rattle.std.specs.Str.{chars, IsUtf8, IsCharBoundary}
 use Rattle.std.proofs.lemmas.Str.{IsUtf8-take}

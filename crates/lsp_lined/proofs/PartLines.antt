@@ -1,6 +1,5 @@
 -- The lines of parts, with a LF for each line end.
-use Rattle.std.proofs.Common.{◌≡◌, ℕ, true, false, List, [], ◌∷◌, ◌++◌}
-use Rattle.std.proofs.Common.{ap, ◌∙◌}
+use Rattle.std.proofs.Common.{◌≡◌, ℕ, true, false, List, [], ◌∷◌, ◌++◌, ap, ◌∙◌}
 use Rattle.lsp_text.specs.Lines.{EndsWith}
 use Rattle.lsp_text.specs.SameText.{with_feeds}
 use Rattle.lsp_text.proofs.SameTexts.{with_feeds-append}

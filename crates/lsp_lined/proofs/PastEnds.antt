@@ -1,15 +1,14 @@
 -- How far a text goes where a position lies past its end, and the units of lines and of spans.
-use Rattle.std.proofs.Common.{◌≡◌, ◌<◌, ◌≤◌, ◌+◌, ◌-◌, ℕ, true, List, [], ◌∷◌}
-use Rattle.std.proofs.Common.{length, take, drop, Option, Some, None, sym, ap, ◌∙◌, arith}
-use Rattle.std.proofs.Common.{⊎_elim}
+use Rattle.std.proofs.Common.{◌≡◌, ◌<◌, ◌≤◌, ◌+◌, ◌-◌, ℕ, true, List, [], ◌∷◌, length, take, drop}
+use Rattle.std.proofs.Common.{Option, Some, None, sym, ap, ◌∙◌, arith, ⊎_elim}
 use Rattle.std.proofs.lemmas.Bool.{cond-false, le-ltb}
-use Rattle.std.proofs.lemmas.List.{take-append-drop, take_all}
+use Rattle.std.proofs.lemmas.List.{take-append-drop, take_all, drop_more}
 use Rattle.std.specs.List.{slice_get}
 use Rattle.std.specs.Str.{chars}
 use Rattle.lsp_types.specs.declared.position.Encoding.{Encoding}
 use Rattle.lsp_types.specs.declared.position.Encoding.TheVariants.{Utf8}
 use Rattle.lsp_types.specs.declared.position.Position.{Position}
-use Rattle.lsp_text.specs.Lines.{Line, lines_of, line_at}
+use Rattle.lsp_text.specs.Lines.{Line, lines_of, line_at, open_line}
 use Rattle.lsp_text.specs.Places.{units}
 use Rattle.lsp_lined.specs.Steps.{line_number}
 use Rattle.lsp_text.specs.Spans.{bytes_between}
@@ -26,8 +25,6 @@ use Rattle.lsp_lined.proofs.LentPlaces.{held_utf8, near_in}
 use Rattle.lsp_lined.proofs.PlainTexts.{plain_units}
 use Rattle.lsp_text.proofs.Positions.{slice_get-past, slice_get-drop}
 use Rattle.lsp_text.proofs.Widths.{is_front}
-use Rattle.std.proofs.lemmas.List.{drop_more}
-use Rattle.lsp_text.specs.Lines.{open_line}
 
 -- ---- columns of a lent line
 

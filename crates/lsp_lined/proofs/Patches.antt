@@ -10,9 +10,8 @@ use Rattle.std.specs.List.{replace_range}
 use Rattle.std.specs.Str.{chars, IsUtf8, IsCharBoundary}
 use lib.Utf8.{encodes}
 use Rattle.std.proofs.lemmas.Str.{encodes-chars, IsUtf8-nil, IsUtf8-take, IsUtf8-drop}
-use Rattle.std.proofs.lemmas.Str.{IsUtf8-between}
-use Rattle.std.proofs.lemmas.Str.{IsCharBoundary-from_rest, IsCharBoundary-from_take}
-use Rattle.std.proofs.lemmas.Str.{IsCharBoundary-at_seam}
+use Rattle.std.proofs.lemmas.Str.{IsUtf8-between, IsCharBoundary-from_rest}
+use Rattle.std.proofs.lemmas.Str.{IsCharBoundary-from_take, IsCharBoundary-at_seam}
 use Rattle.lsp_text.specs.Parting.{AreSameFrom}
 use Rattle.lsp_text.specs.Spans.{bytes_between}
 use Rattle.lsp_lined.specs.Patches.{BeginsAs, IsPatch, PartsIn}

@@ -1,8 +1,7 @@
 -- Parts that are put in chunks, and parts that are cut anew at an edit.
 use Rattle.std.proofs.Common.{◌≡◌, ◌<◌, ◌≤◌, ◌+◌, ◌^◌, ℕ, false, List, [], ◌∷◌, ◌++◌, length, map, take, drop, sym, ap, subst, ⊎_elim, ◌∙◌, arith, length-append, length-drop, append_assoc}
-use Rattle.std.specs.List.{splice}
+use Rattle.std.specs.List.{splice, drop-map}
 use Rattle.std.proofs.lemmas.Bool.{cases_lt}
-use Rattle.std.specs.List.{drop-map}
 use Rattle.std.proofs.lemmas.List.{take-append-drop, take-take, length-take-le, take-map, map-append}
 use Rattle.std.specs.Str.{IsCharBoundary}
 use Rattle.lsp_types.specs.declared.position.Encoding.TheVariants.{Utf8}

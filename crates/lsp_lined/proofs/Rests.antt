@@ -3,14 +3,12 @@ use Rattle.std.proofs.Common.{◌≡◌, ◌<◌, ◌≤◌, ◌+◌, ◌-◌, �
 use Rattle.std.proofs.Common.{drop, get_or, refl, sym, ap, subst, ⊎_elim, ◌∙◌, arith}
 use Rattle.std.proofs.Common.{length-append, length-drop, append_assoc, take-add}
 use Rattle.std.proofs.lemmas.Bool.{cases_lt}
-use Rattle.std.proofs.lemmas.List.{append-nil, take-append-drop}
-use Rattle.std.proofs.lemmas.List.{drop-drop, length-take-le}
+use Rattle.std.proofs.lemmas.List.{append-nil, take-append-drop, drop-drop, length-take-le}
 use Rattle.std.proofs.lemmas.List.{get_or_append_left, get_or-append_right}
 use Rattle.std.specs.Str.{IsCharBoundary}
 use Rattle.std.proofs.lemmas.Str.{IsUtf8-take}
 use Rattle.lsp_types.specs.declared.position.Encoding.TheVariants.{Utf8}
-use Rattle.lsp_lined.specs.Ends.{ends_in, joins, places_behind}
-use Rattle.lsp_lined.specs.Ends.{IsCountUpTo, IsRest}
+use Rattle.lsp_lined.specs.Ends.{ends_in, joins, places_behind, IsCountUpTo, IsRest}
 use Rattle.lsp_lined.specs.Parts.{joined, part_at, AreParts, IsFound, IsSeam}
 use Rattle.lsp_text.specs.Spans.{bytes_between}
 use Rattle.lsp_lined.specs.declared.part.Found.{Found}
@@ -18,8 +16,7 @@ use Rattle.lsp_lined.specs.declared.sums.Measure.TheVariants.{Units}
 use Rattle.lsp_lined.proofs.EndCounts.{ends_in-append, sums_at_most, length-places_behind}
 use Rattle.lsp_lined.proofs.EndCounts.{places_behind-append}
 use Rattle.lsp_lined.proofs.EndPlaces.{places_within}
-use Rattle.lsp_lined.proofs.Parts.{joined-at, joins-front, joins-back, joins-nearer}
-use Rattle.lsp_lined.proofs.Parts.{IsUtf8-joined}
+use Rattle.lsp_lined.proofs.Parts.{joined-at, joins-front, joins-back, joins-nearer, IsUtf8-joined}
 use Rattle.lsp_lined.proofs.PartPlaces.{before_part, after_part, after_last, part_between}
 use Rattle.lsp_lined.proofs.PartPlaces.{take-inside, drop-inside, found_units}
 

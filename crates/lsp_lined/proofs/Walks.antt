@@ -1,20 +1,17 @@
 -- What visitors of a text have seen, and the parts that they go over.
 use Rattle.std.proofs.Common.{◌≡◌, ◌<◌, ◌≤◌, ◌+◌, ◌-◌, ◌^◌, ℕ, Bool, true, false, not, List, []}
-use Rattle.std.proofs.Common.{◌∷◌, ◌++◌, length, map, take, Bor, IfSome}
-use Rattle.std.proofs.Common.{drop, get_or, min, refl, OnOk, OnErr, sym, ap, ap₂, subst, ⊎_elim}
-use Rattle.std.proofs.Common.{◌∙◌, arith}
-use Rattle.std.proofs.Common.{length-append, length-drop, append_assoc}
+use Rattle.std.proofs.Common.{◌∷◌, ◌++◌, length, map, take, Bor, IfSome, drop, get_or, min, refl}
+use Rattle.std.proofs.Common.{OnOk, OnErr, sym, ap, ap₂, subst, ⊎_elim, ◌∙◌, arith, length-append}
+use Rattle.std.proofs.Common.{length-drop, append_assoc}
 use Rattle.std.proofs.lemmas.Bool.{cases_lt}
 use Rattle.std.proofs.lemmas.List.{append-nil, take-append-le, append_cancel_left, drop_all}
-use Rattle.std.proofs.lemmas.List.{drop-take}
-use Rattle.std.proofs.lemmas.List.{take_all}
+use Rattle.std.proofs.lemmas.List.{drop-take, take_all}
 use Rattle.std.proofs.Math.Seq.{take-append-add}
 use Rattle.std.specs.declared.result.Result.{Result}
 use Rattle.std.specs.declared.result.Result.TheVariants.{Ok, Err}
 use Rattle.std.specs.Bool.{then_some}
 use Rattle.std.specs.Str.{IsUtf8, IsCharBoundary}
-use Rattle.std.proofs.lemmas.Str.{IsCharBoundary-at_seam, IsCharBoundary-end}
-use Rattle.std.proofs.lemmas.Str.{IsCharBoundary-start}
+use Rattle.std.proofs.lemmas.Str.{IsCharBoundary-at_seam, IsCharBoundary-end, IsCharBoundary-start}
 use Rattle.lsp_types.specs.declared.position.Encoding.TheVariants.{Utf8}
 use Rattle.lsp_lined.specs.Ends.{joins}
 use Rattle.lsp_lined.specs.Parts.{joined, part_at, AreParts, IsFound, IsSeam, IsSpan}

@@ -3,8 +3,7 @@ use Rattle.std.proofs.Common.{◌≡◌, ◌<◌, ◌≤◌, ◌+◌, ◌-◌, �
 use Rattle.std.proofs.Common.{◌++◌, length, take, drop, refl, sym, ap, subst, inl, ◌∙◌, arith}
 use Rattle.std.proofs.Common.{append_assoc, take-add, min}
 use Rattle.std.specs.List.{replace_range}
-use Rattle.std.proofs.lemmas.List.{append-nil, take-append-drop, length-take-le}
-use Rattle.std.proofs.lemmas.List.{drop-drop}
+use Rattle.std.proofs.lemmas.List.{append-nil, take-append-drop, length-take-le, drop-drop}
 use Rattle.std.specs.Str.{chars, IsUtf8}
 use Rattle.std.proofs.lemmas.Str.{IsUtf8-nil, IsUtf8-take, IsUtf8-drop, IsUtf8-between}
 use Rattle.std.proofs.lemmas.Str.{IsCharBoundary-start}
@@ -13,8 +12,7 @@ use Rattle.lsp_text.specs.Places.{units}
 use Rattle.lsp_lined.specs.Ends.{ends_in, joins}
 use Rattle.lsp_lined.specs.Sums.{sums_of, added, exchanged, AreAtMost}
 use Rattle.lsp_lined.specs.Parts.{joined, AreParts, IsSeam, IsSpan, IsSpot}
-use Rattle.lsp_text.specs.Spans.{CanReplace}
-use Rattle.lsp_text.specs.Spans.{bytes_between}
+use Rattle.lsp_text.specs.Spans.{CanReplace, bytes_between}
 use Rattle.lsp_lined.specs.Patches.{AreSameEndsOf}
 use Rattle.lsp_lined.specs.Windows.{pieces_of, text_with, IsWindowed, IsClosed, CanEdit, HoldsText}
 use Rattle.lsp_lined.specs.declared.sums.Sums.{Sums}

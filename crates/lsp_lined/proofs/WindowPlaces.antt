@@ -5,8 +5,7 @@ use Rattle.std.proofs.Common.{inl, inr, ◌∙◌, arith, length-append, length-
 use Rattle.std.proofs.lemmas.Bool.{and_right}
 use Rattle.std.proofs.lemmas.List.{append-nil, take_all, drop_all}
 use Rattle.std.specs.Str.{chars, IsUtf8, IsCharBoundary}
-use Rattle.std.proofs.lemmas.Str.{chars-append, chars-nil}
-use Rattle.std.proofs.lemmas.Str.{IsCharBoundary-start, IsCharBoundary-end}
+use Rattle.std.proofs.lemmas.Str.{chars-append, chars-nil, IsCharBoundary-start, IsCharBoundary-end}
 use Rattle.std.proofs.lemmas.Str.{IsCharBoundary-from_rest}
 use Rattle.lsp_types.specs.declared.position.Encoding.{Encoding}
 use Rattle.lsp_text.specs.Places.{units, place_in_line}
@@ -23,9 +22,8 @@ use Rattle.lsp_text.proofs.Counting.{units-append, units-utf8_text}
 use Rattle.lsp_lined.proofs.LentPlaces.{far_offset, far_none}
 use Rattle.lsp_lined.proofs.PartEdits.{units_fit}
 use Rattle.lsp_lined.proofs.Parts.{IsUtf8-joined}
-use Rattle.lsp_lined.proofs.PartPlaces.{amount-units, place-front, offset-inside}
-use Rattle.lsp_lined.proofs.PartPlaces.{no_offset-inside, units-inside}
-use Rattle.lsp_lined.proofs.PartPlaces.{FallsIn}
+use Rattle.lsp_lined.proofs.PartPlaces.{amount-units, place-front, offset-inside, no_offset-inside}
+use Rattle.lsp_lined.proofs.PartPlaces.{units-inside, FallsIn}
 use Rattle.lsp_lined.proofs.PlainTexts.{units_le_bytes}
 use Rattle.lsp_lined.proofs.CutEnds.{boundary_behind}
 use Rattle.lsp_lined.proofs.WindowEnds.{front_of, back_of, shown}

@@ -17,8 +17,7 @@ ghost use Rattle.lsp_lined.specs.Ends.{ends_in, moved_place, CanMove, IsLineEnd}
 ghost use Rattle.lsp_lined.specs.Sums.{sums_of};
 ghost use Rattle.lsp_text.specs.SameText.{BeginsOtherwise, due, with_feeds};
 ghost use Rattle.lsp_text.specs.Spans.{CanReplace};
-ghost use Rattle.lsp_lined.specs.Parts.{IsReplacedOr, KeepsEnds};
-ghost use Rattle.lsp_lined.specs.Parts.{IsCutPlace};
+ghost use Rattle.lsp_lined.specs.Parts.{IsReplacedOr, KeepsEnds, IsCutPlace};
 
 use crate::ends::{end_len_before, is_return_last, is_whole, move_places, places_of, places_up_to};
 use crate::part::{LineEnd, Part, SharedPart};

@@ -11,10 +11,9 @@ ghost use Rattle.lsp_lined.specs.Sums.{sums_of};
 ghost use Rattle.lsp_text.specs.Parting.{AreSameFrom};
 ghost use Rattle.lsp_lined.specs.Walks.{IsInOrder};
 ghost use Rattle.lsp_lined.specs.Parts.{joined, MakeUp, AreParts, IsReplacedOr};
-ghost use Rattle.lsp_text.specs.Spans.{CanReplace};
 ghost use Rattle.lsp_lined.specs.Parts.{CanReplaceIn, IsReplacedIn, IsReplacedInOr, IsFound};
 ghost use Rattle.lsp_lined.specs.Parts.{IsFoundBefore, IsSpot, IsSeam, IsSpan};
-ghost use Rattle.lsp_text.specs.Spans.{bytes_between};
+ghost use Rattle.lsp_text.specs.Spans.{CanReplace, bytes_between};
 
 use crate::sums::{Measure, Sums};
 use crate::walk::Visitor;

@@ -1,16 +1,14 @@
 -- What a tape holds after it was read into and given from.
 use Rattle.std.proofs.Common.{◌≡◌, Bool, true, false, ℕ, zero, suc, ◌+◌, ◌-◌, ◌<◌, ◌≤◌, List, [], ◌∷◌, ◌++◌, length, take, drop, refl, sym, ap, subst, ◌∙◌, append_assoc, append-nil, arith}
-use Rattle.std.proofs.lemmas.List.{length-append, length-take}
+use Rattle.std.proofs.lemmas.List.{length-append, length-take, nil_from_length}
 use borrow.Rule.Slice.PartMut.{put_mid}
 use Rattle.lsp_frame.specs.Told.{Told, KeepsBytes, after_failure}
 use Rattle.lsp_frame.proofs.Telling.{gave_then, gave_kept, take_written}
 use Rattle.memchr.specs.Find.{Passes, Nowhere, NoneBefore, is_byte}
-use Rattle.lsp_log.specs.Log.{HasLine, holds_feed}
+use Rattle.lsp_log.specs.Log.{HasLine, holds_feed, with_feed}
 use Rattle.lsp_log.proofs.Bytes.{first_cut, nowhere_none}
 use Rattle.std.specs.Prelude.{slice_index, ◌==◌}
-use Rattle.std.proofs.lemmas.List.{nil_from_length}
 use Rattle.std.proofs.lemmas.Map.Views.{exact_unsigned_eq}
-use Rattle.lsp_log.specs.Log.{with_feed}
 use Rattle.lsp_log.specs.Tape.{Held, Pulled, IsOver, ReadFailed, FailsShort, Filled, Taken, Wants, Misses}
 
 -- ---- pulls

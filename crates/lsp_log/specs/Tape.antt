@@ -1,7 +1,7 @@
 -- What a tape holds, and what it takes of its reader.
 use Rattle.std.specs.Prelude.{◌≡◌, ◌==◌, ℕ, ◌+◌, ◌<◌, ◌≤◌, List, [], ◌∷◌, ◌++◌, length, take, drop, Option, Some, None, Bool, true, false, Result, Ok, Err, slice_index}
-use Rattle.std.specs.Io.KnownBytes.{IsAtEnd}
 use Rattle.std.specs.Prelude.{Vec}
+use Rattle.std.specs.Io.KnownBytes.{IsAtEnd}
 use Rattle.std.specs.Global.{Global}
 use Rattle.lsp_frame.specs.Told.{Told, Gave, KeepsBytes, after_failure}
 use Rattle.lsp_log.specs.Log.{HasLine, holds_feed, with_feed}

@@ -1,7 +1,7 @@
 -- What the server's edits are in the texts of a document, as the code has it.
 use Rattle.std.specs.Prelude.{◌||◌, MatchOption, get_or, int_lt, is_none, is_some, nat_lt, not}
-use Rattle.std.specs.Borrow.{Bor}
 use Rattle.std.specs.Prelude.{if◌then◌else◌, option_map, option_to_list, ℤ}
+use Rattle.std.specs.Borrow.{Bor}
 use Rattle.std.specs.List.{cons_option}
 use Rattle.std.proofs.Common.{◌≡◌, ◌<◌, ◌+◌, ℕ, Bool, true, false, List, [], ◌∷◌, ◌++◌, Option, Some}
 use Rattle.std.proofs.Common.{None, refl, sym, ap, ◌∙◌, append_assoc, arith}

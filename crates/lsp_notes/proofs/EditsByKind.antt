@@ -1,16 +1,14 @@
 -- What a message asks of edits and has of them, by its kind; what is held of both.
 use Rattle.std.specs.Borrow.{Bor}
 use Rattle.std.specs.Global.{Global}
-use Rattle.std.specs.Prelude.{option_and_then, option_map}
-use Rattle.std.specs.Prelude.{if◌then◌else◌, codes, String}
+use Rattle.std.specs.Prelude.{option_and_then, option_map, if◌then◌else◌, codes, String}
 use Rattle.std.specs.List.{cons_option}
 use Rattle.std.proofs.Common.{◌≡◌, ◌<◌, ◌+◌, ℕ, Bool, true, false, List, [], ◌∷◌, ◌++◌, Option, Some, None}
 use Rattle.std.proofs.Common.{refl, sym, ap, ◌∙◌, append-nil, append_assoc, arith}
 use Rattle.serde_json.specs.declared.value.Value.{Value}
 use Rattle.lsp_docs.specs.Documents.{Terms}
 use Rattle.lsp_rpc.specs.Ident.{Ident}
-use Rattle.lsp_rpc.specs.Message.{Message, request, notification, response}
-use Rattle.lsp_rpc.specs.Message.{Reply, result, error}
+use Rattle.lsp_rpc.specs.Message.{Message, request, notification, response, Reply, result, error}
 use Rattle.lsp_rpc.specs.Outline.{outline}
 use Rattle.lsp_rpc.specs.Shape.{member}
 use Rattle.lsp_rpc.specs.View.{message_view}
@@ -25,14 +23,12 @@ use Rattle.lsp_replay.specs.declared.heard.EventPlace.{EventPlace}
 use Rattle.lsp_outline.specs.Versions.{Versioned}
 use Rattle.lsp_notes.specs.EditRequests.{is_formatting, is_rename, request_of}
 use Rattle.lsp_trail.specs.History.{last_ones, with_room}
-use Rattle.lsp_notes.specs.LateEdits.{HoldsLate, LateAnswer, late_view}
-use Rattle.lsp_notes.specs.LateEdits.{most_late}
+use Rattle.lsp_notes.specs.LateEdits.{HoldsLate, LateAnswer, late_view, most_late}
 use Rattle.lsp_trail.specs.Naming.{params_of, version_named}
 use Rattle.lsp_notes.specs.Refusals.{is_request}
 use Rattle.lsp_notes.specs.Requests.{Request, request_at}
-use Rattle.lsp_notes.specs.ServerEdits.{edited_in_message, in_diagnostics}
-use Rattle.lsp_notes.specs.ServerEdits.{answered, edit_in, in_answer}
-use Rattle.lsp_notes.specs.ServerEdits.{in_request, in_whole}
+use Rattle.lsp_notes.specs.ServerEdits.{edited_in_message, in_diagnostics, answered, edit_in}
+use Rattle.lsp_notes.specs.ServerEdits.{in_answer, in_request, in_whole}
 use Rattle.lsp_notes.specs.declared.late_edits.LateAnswer as answer
 use Rattle.lsp_trail.proofs.History.{held-push}
 use Rattle.lsp_trail.proofs.NamedDocuments.{editor_names}

@@ -1,7 +1,6 @@
 -- What changes find that does not fit their text, with one event more.
 use Rattle.std.specs.Borrow.{Bor}
-use Rattle.std.specs.Prelude.{option_map, option_and_then, if◌then◌else◌, ◌&&◌, is_none, is_some}
-use Rattle.std.specs.Prelude.{ℤ}
+use Rattle.std.specs.Prelude.{option_map, option_and_then, if◌then◌else◌, ◌&&◌, is_none, is_some, ℤ}
 use Rattle.std.specs.List.{cons_option}
 use Rattle.std.proofs.Common.{◌≡◌, ℕ, Bool, true, false, List, [], ◌∷◌, ◌++◌, Option, Some, None}
 use Rattle.std.proofs.Common.{refl, sym, ap, ◌∙◌, append-nil, subst, Result, Ok, Err, arith}

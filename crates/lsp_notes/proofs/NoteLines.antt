@@ -1,12 +1,9 @@
 -- Each note is a line of its own, which begins with `note `.
 use Rattle.std.proofs.Common.{◌≡◌, ◌<◌, ◌+◌, ◌/◌, ◌%◌, ℕ, zero, suc, ℤ, Bool, true, false, ◌&&◌}
-use Rattle.std.proofs.Common.{◌==◌, not}
-use Rattle.std.proofs.Common.{List, [], ◌∷◌, ◌++◌, map, drop, Option, Some, None, inl, inr, refl}
-use Rattle.std.proofs.Common.{sym, ap, ◌∙◌}
-use Rattle.std.proofs.Common.{arith, append-nil, append_assoc}
+use Rattle.std.proofs.Common.{◌==◌, not, List, [], ◌∷◌, ◌++◌, map, drop, Option, Some, None, inl}
+use Rattle.std.proofs.Common.{inr, refl, sym, ap, ◌∙◌, arith, append-nil, append_assoc}
 use Rattle.std.specs.Prelude.{codes, decimal, pos, negsuc, option_and_then, option_map}
-use Rattle.std.specs.Prelude.{option_to_list}
-use Rattle.std.specs.Prelude.{nat_lt, if◌then◌else◌, take}
+use Rattle.std.specs.Prelude.{option_to_list, nat_lt, if◌then◌else◌, take}
 use Rattle.std.specs.Fmt.{digit_glyph, digits, digits_onto, signed_decimal}
 use Rattle.std.specs.List.{cons_option, filter_map, flat_map}
 use Rattle.std.proofs.lemmas.Bool.{and_parts, cases_lt, or_from, or_parts, true≢false}
@@ -20,8 +17,7 @@ use Rattle.lsp_verdict.specs.Report.{line, who_name}
 use Rattle.lsp_verdict.specs.declared.verdict.Who.{Who}
 use Rattle.lsp_verdict.specs.declared.verdict.Who.TheVariants as who
 use Rattle.lsp_notes.specs.AllNotes.{AreNotes, IsNote, beyond, has_feed}
-use Rattle.lsp_notes.specs.DocumentNotes.{DocumentNote, document_line, first_notes}
-use Rattle.lsp_notes.specs.DocumentNotes.{if_first}
+use Rattle.lsp_notes.specs.DocumentNotes.{DocumentNote, document_line, first_notes, if_first}
 use Rattle.lsp_notes.specs.ServerEdits.{flat_from}
 
 -- ---- bytes without a LF

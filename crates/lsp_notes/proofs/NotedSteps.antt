@@ -1,8 +1,7 @@
 -- The steps of the account that tells the notes along the way.
 use Rattle.std.specs.Borrow.{Bor}
 use Rattle.std.specs.Prelude.{drop, length, not, option_and_then, option_map, is_some, ◌&&◌, ◌||◌}
-use Rattle.std.specs.Prelude.{if◌then◌else◌}
-use Rattle.std.specs.Prelude.{◌==◌, map}
+use Rattle.std.specs.Prelude.{if◌then◌else◌, ◌==◌, map}
 use Rattle.std.specs.List.{cons_option}
 use Rattle.std.specs.Option.{option_or}
 use Rattle.std.proofs.Common.{◌≡◌, ℕ, Bool, true, false, List, [], ◌∷◌, ◌++◌, Option, Some, None}
@@ -25,10 +24,9 @@ use Rattle.lsp_verdict.specs.Heard.{Heard, heard_events}
 use Rattle.lsp_verdict.specs.LookBack.{each_of, first_from, first_of}
 use Rattle.lsp_verdict.specs.Offences.{said_at}
 use Rattle.lsp_verdict.proofs.LookBackLemmas.{each_of-snoc, first_of-snoc}
-use Rattle.lsp_notes.specs.AllNotes.{asks_shutdown, can_be_made, found_along}
-use Rattle.lsp_notes.specs.AllNotes.{found_at, found_more, has_exited, is_shutdown_refused}
-use Rattle.lsp_notes.specs.AllNotes.{one}
-use Rattle.lsp_notes.specs.AllNotes.{is_broken, refused_shutdown, sound_events, sound_from}
+use Rattle.lsp_notes.specs.AllNotes.{asks_shutdown, can_be_made, found_along, found_at, found_more}
+use Rattle.lsp_notes.specs.AllNotes.{has_exited, is_shutdown_refused, one, is_broken}
+use Rattle.lsp_notes.specs.AllNotes.{refused_shutdown, sound_events, sound_from}
 use Rattle.lsp_notes.specs.Behind.{is_on_behind}
 use Rattle.lsp_notes.specs.DocumentNotes.{DocumentNote, document_line, first_notes}
 use Rattle.lsp_notes.specs.DocumentNotes.{note_view, notes_view}

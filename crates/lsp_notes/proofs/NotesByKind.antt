@@ -41,9 +41,8 @@ use Rattle.lsp_notes.specs.Refusals.{refused_words, refuses}
 use Rattle.lsp_notes.specs.ServerEdits as serving
 use Rattle.lsp_notes.specs.ServerEdits.{Edited, all_noted, late_at, late_by, lates, noted_at}
 use Rattle.lsp_notes.specs.ServerEdits.{outside_in, outside_note, outside_words, outsides}
-use Rattle.lsp_notes.specs.ServerEdits.{if_unsent, overlap_in, overlap_note, overlaps}
-use Rattle.lsp_notes.specs.ServerEdits.{unsent_note, unsents, calls_with, encoding_with}
-use Rattle.lsp_notes.specs.ServerEdits.{last_answers, sight_of}
+use Rattle.lsp_notes.specs.ServerEdits.{if_unsent, overlap_in, overlap_note, overlaps, unsent_note}
+use Rattle.lsp_notes.specs.ServerEdits.{unsents, calls_with, encoding_with, last_answers, sight_of}
 use Rattle.lsp_trail.specs.SessionNotes.{Misused, misuses}
 use Rattle.lsp_notes.specs.Spellings.{other_spelling, similar_note, similar_words, spelling_at}
 use Rattle.lsp_notes.specs.Spellings.{spelling_by, spelling_note, spellings, unopened_at}

@@ -50,11 +50,10 @@ use Rattle.lsp_trail.specs.Naming.{is_diagnostics}
 use Rattle.lsp_notes.specs.ServerEdits.{AreServerEdits, Edited, NotesBy, all_noted, calls_with}
 use Rattle.lsp_notes.specs.ServerEdits.{edited_at, edited_at_place, edited_by_side}
 use Rattle.lsp_notes.specs.ServerEdits.{edited_in_message, flat_from, flat_of, in_diagnostics}
-use Rattle.lsp_notes.specs.ServerEdits.{last_answers, late_answer_at}
-use Rattle.lsp_notes.specs.ServerEdits.{late_at, late_by, noted_at, outside_note, overlap_note}
-use Rattle.lsp_notes.specs.ServerEdits.{edited_view, encoding_with, late_in, note_on}
-use Rattle.lsp_notes.specs.ServerEdits.{Sight, outside_in, overlap_in, sight, sight_of}
-use Rattle.lsp_notes.specs.ServerEdits.{texts_of, unsent_note, uris_with, with_notes}
+use Rattle.lsp_notes.specs.ServerEdits.{last_answers, late_answer_at, late_at, late_by, noted_at}
+use Rattle.lsp_notes.specs.ServerEdits.{outside_note, overlap_note, edited_view, encoding_with}
+use Rattle.lsp_notes.specs.ServerEdits.{late_in, note_on, Sight, outside_in, overlap_in, sight}
+use Rattle.lsp_notes.specs.ServerEdits.{sight_of, texts_of, unsent_note, uris_with, with_notes}
 use Rattle.lsp_notes.specs.declared.edited.Edited as seen
 use Rattle.lsp_notes.specs.declared.server_edits.ServerEdits.{ServerEdits}
 use Rattle.lsp_trail.specs.declared.mark.VersionEvent.{VersionEvent}

@@ -6,8 +6,7 @@ use Rattle.std.specs.Ordering.{int_eq}
 use Rattle.json.specs.Print.{quoted}
 use Rattle.lsp_docs.specs.Documents.{Terms}
 use Rattle.lsp_rpc.specs.Ident.{Ident}
-use Rattle.lsp_rpc.specs.Message.{Message, request, notification, response}
-use Rattle.lsp_rpc.specs.Message.{Reply, result, error}
+use Rattle.lsp_rpc.specs.Message.{Message, request, notification, response, Reply, result, error}
 use Rattle.lsp_session.specs.Sent.{Sent}
 use Rattle.lsp_types.specs.declared.side.Side.{Side}
 use Rattle.lsp_types.specs.declared.side.Side.TheVariants.{Editor, Server}

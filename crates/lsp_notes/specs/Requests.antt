@@ -1,6 +1,5 @@
 -- The last requests of the editor that are held, with the documents that they name.
-use Rattle.std.specs.Prelude.{◌==◌, ℕ, List, Bool, Option, map, option_map}
-use Rattle.std.specs.Prelude.{string_bytes}
+use Rattle.std.specs.Prelude.{◌==◌, ℕ, List, Bool, Option, map, option_map, string_bytes}
 use Rattle.lsp_replay.specs.declared.heard.EventPlace.{EventPlace}
 use Rattle.lsp_trail.specs.History.{HoldsLast, last_that}
 use Rattle.lsp_notes.specs.declared.requests.Request as code

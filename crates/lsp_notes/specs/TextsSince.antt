@@ -1,8 +1,7 @@
 -- Which texts a document had since an event, and what edits are in all of them.
-use Rattle.std.specs.Prelude.{ℕ, ℤ, int_lt, ◌&&◌, ◌||◌, ◌==◌, Bool, true, false, not, nat_lt}
-use Rattle.std.specs.Prelude.{List, [], ◌∷◌, ◌++◌, map, filter, if◌then◌else◌}
-use Rattle.std.specs.Prelude.{Option, Some, None, is_none, is_some, option_and_then, option_map}
-use Rattle.std.specs.Prelude.{option_to_list}
+use Rattle.std.specs.Prelude.{ℕ, ℤ, int_lt, ◌&&◌, ◌||◌, ◌==◌, Bool, true, false, not, nat_lt, List}
+use Rattle.std.specs.Prelude.{[], ◌∷◌, ◌++◌, map, filter, if◌then◌else◌, Option, Some, None}
+use Rattle.std.specs.Prelude.{is_none, is_some, option_and_then, option_map, option_to_list}
 use Rattle.std.specs.List.{filter_map, find, flat_map, list_any, list_all}
 use Rattle.lsp_docs.specs.Calls.{Bytes, Call, Text}
 use Rattle.lsp_docs.specs.Documents.{Terms, Version, held}

@@ -8,8 +8,7 @@ use Rattle.std.proofs.lemmas.List.{take-map, take_min}
 use Rattle.lsp_types.specs.declared.change.Change.{Change}
 use Rattle.lsp_text.specs.Changes.{edits_of}
 use Rattle.lsp_origins.specs.Fits.{suspect_view, suspects_view}
-use Rattle.lsp_origins.specs.Rearranged.{alone, begins_behind, instead, put_in, rearranged}
-use Rattle.lsp_origins.specs.Rearranged.{width}
+use Rattle.lsp_origins.specs.Rearranged.{alone, begins_behind, instead, put_in, rearranged, width}
 use Rattle.lsp_trail.specs.SentEdits.{SentEdits, sent_edits}
 use Rattle.lsp_origins.specs.declared.fits.Suspect.{Suspect}
 use Rattle.lsp_origins.specs.declared.rearranged.Way.{Way}

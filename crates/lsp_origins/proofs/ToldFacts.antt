@@ -13,8 +13,7 @@ use Rattle.lsp_verdict.specs.Event.{Event}
 use Rattle.lsp_trail.specs.Bases.{HoldsAny, base_in, later, sent_in, text_in}
 use Rattle.lsp_origins.specs.Fits.{if_named, own_edits, reached, suspected}
 use Rattle.lsp_trail.specs.SentEdits.{SentEdits, are_few}
-use Rattle.lsp_origins.specs.Told.{fitting_any, setters_until, taken_any, told, told_facts}
-use Rattle.lsp_origins.specs.Told.{told_of}
+use Rattle.lsp_origins.specs.Told.{fitting_any, setters_until, taken_any, told, told_facts, told_of}
 use Rattle.lsp_trail.specs.Uncompared.{ShownText, if_later}
 use Rattle.lsp_origins.specs.declared.suspects.Until.{Until}
 use Rattle.lsp_origins.specs.declared.suspects.Until.TheVariants as until

@@ -10,8 +10,7 @@ use Rattle.lsp_verdict.specs.Offences.{Offence, events_of, kept_of, follows}
 use Rattle.lsp_verdict.specs.Placed.{Raw}
 use Rattle.lsp_verdict.specs.Report.{report}
 use Rattle.lsp_verdict.specs.Survey.{first_verdict, bad_lines, found_line}
-use Rattle.lsp_verdict.specs.Verdict.{Verdict, yes, no, bad_log, Summary}
-use Rattle.lsp_verdict.specs.Verdict.{no_by}
+use Rattle.lsp_verdict.specs.Verdict.{Verdict, yes, no, bad_log, Summary, no_by}
 use Rattle.lsp_verdict.specs.declared.offence.Offence as code
 use Rattle.lsp_facts.specs.EventFacts.{AreFacts, header_facts, side_by, flaw_facts}
 use Rattle.lsp_facts.specs.Fact.{Fact, detail_lines, event_line, end_event, usual, usual_inside}

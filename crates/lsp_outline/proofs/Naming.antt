@@ -9,8 +9,7 @@ use Rattle.serde_json.specs.Read.{read}
 use Rattle.lsp_types.specs.declared.side.Side.{Side}
 use Rattle.lsp_types.specs.declared.side.Side.TheVariants.{Editor, Server}
 use Rattle.lsp_outline.specs.Named.{content_view, named_in_value, naming_view}
-use Rattle.lsp_outline.specs.Versions.{AreNamed, Names, parts_view}
-use Rattle.lsp_outline.specs.Versions.{versioned_in_value}
+use Rattle.lsp_outline.specs.Versions.{AreNamed, Names, parts_view, versioned_in_value}
 use Rattle.lsp_outline.specs.declared.document.ContentParts.{ContentParts}
 
 -- what is read off the value of a content

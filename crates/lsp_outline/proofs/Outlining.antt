@@ -1,7 +1,6 @@
 -- The message that its members make, apart from what its params and its result hold.
 use Rattle.std.proofs.Common.{◌≡◌, inl, inr, ℕ, ℤ, List, Bool, true, false, Option, Some, None}
-use Rattle.std.proofs.Common.{option_map, option_and_then, codes, true≢false, refl, sym}
-use Rattle.std.proofs.Common.{ap, ◌∙◌}
+use Rattle.std.proofs.Common.{option_map, option_and_then, codes, true≢false, refl, sym, ap, ◌∙◌}
 use Rattle.std.specs.Prelude.{◌⊎◌, is_some, unwrap_or}
 use Rattle.serde_json.specs.Data.{Data, null, boolean, number, string, array, object, Members}
 use Rattle.serde_json.specs.Find.{get_member}

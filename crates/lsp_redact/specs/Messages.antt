@@ -1,7 +1,6 @@
 -- What is written of a message: a JSON value of what is left of it, its members in the order of
 -- their names. (JSON-RPC 2.0, sections 4 and 5; LSP 3.17.)
-use Rattle.std.specs.Prelude.{ℕ, ℤ, List, [], map, Option, Some, None, option_map, codes}
-use Rattle.std.specs.Prelude.{decimal}
+use Rattle.std.specs.Prelude.{ℕ, ℤ, List, [], map, Option, Some, None, option_map, codes, decimal}
 use Rattle.serde_json.specs.Data.{Data, null, number, string, array, object, unsigned}
 use Rattle.serde_json.specs.Data.{Members, no_members, member, put}
 use Rattle.serde_json.specs.Find.{of_integer}

@@ -1,7 +1,6 @@
 -- What is said of a log with its words replaced, up to its verdict.
-use Rattle.std.specs.Prelude.{◌≡◌, ◌==◌, ℕ, List, [], ◌∷◌, ◌++◌, true, Option, Some}
-use Rattle.std.specs.Prelude.{None, is_some, option_and_then, option_to_list}
-use Rattle.std.specs.Prelude.{if◌then◌else◌, map}
+use Rattle.std.specs.Prelude.{◌≡◌, ◌==◌, ℕ, List, [], ◌∷◌, ◌++◌, true, Option, Some, None, is_some}
+use Rattle.std.specs.Prelude.{option_and_then, option_to_list, if◌then◌else◌, map}
 use Rattle.std.specs.List.{flat_map}
 use Rattle.lsp_docs.specs.Documents.{Terms}
 use Rattle.lsp_facts.specs.TwoTexts.{texts_at}

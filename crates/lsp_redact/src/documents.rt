@@ -2,10 +2,9 @@
 ghost use Rattle.std.specs.Prelude.{◌≡◌, IfOk, map, option_map, string_bytes};
 ghost use Rattle.lsp_redact.specs.Characters.{bytes_left, shown_bytes, written_text};
 ghost use Rattle.lsp_redact.specs.Messages.{change_data, change_of, changed_data, changed_of};
-ghost use Rattle.lsp_redact.specs.Messages.{closed_data};
-ghost use Rattle.lsp_redact.specs.Messages.{identifier_data, integer, list, opened_data};
-ghost use Rattle.lsp_redact.specs.Messages.{position_data};
-ghost use Rattle.lsp_redact.specs.Messages.{saved_data, span_data, text_data};
+ghost use Rattle.lsp_redact.specs.Messages.{closed_data, identifier_data, integer, list};
+ghost use Rattle.lsp_redact.specs.Messages.{opened_data, position_data, saved_data, span_data};
+ghost use Rattle.lsp_redact.specs.Messages.{text_data};
 ghost use Rattle.lsp_redact.specs.Names.{uri_names, uri_of, written_uri};
 ghost use Rattle.lsp_redact.specs.Naming.{Writes};
 ghost use Rattle.lsp_redact.specs.Shown.{shown_change};

@@ -3,9 +3,8 @@ ghost use Rattle.std.specs.Prelude.{◌≡◌, IfOk, Some, option_map, string_by
 ghost use Rattle.lsp_redact.specs.Copies.{call_of};
 ghost use Rattle.lsp_redact.specs.Messages.{answer_members, answered_data, call_members};
 ghost use Rattle.lsp_redact.specs.Messages.{called_members, content_of, error_data, id_data};
-ghost use Rattle.lsp_redact.specs.Messages.{members_of, params_of, reply_data};
+ghost use Rattle.lsp_redact.specs.Messages.{members_of, params_of, reply_data, response_members};
 ghost use Rattle.lsp_redact.specs.Messages as spec;
-ghost use Rattle.lsp_redact.specs.Messages.{response_members};
 ghost use Rattle.lsp_redact.specs.Names.{Names, act_names, call_names, given_names, joined};
 ghost use Rattle.lsp_redact.specs.Names.{message_names, reply_names, shown_id, shown_method};
 ghost use Rattle.lsp_redact.specs.Naming.{Writes};

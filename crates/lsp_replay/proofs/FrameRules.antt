@@ -16,11 +16,9 @@ use Rattle.lsp_session.specs.Sent.{same_side}
 use Rattle.lsp_session.proofs.LawLemmas.{same_side-refl}
 use Rattle.lsp_replay.specs.Streams.{State, Stands, decoder_of}
 use Rattle.lsp_replay.proofs.Owning.{given_own, side_broken}
-use Rattle.lsp_verdict.specs.Placed.{ReadsAs, Raw, content, broken, show, new_fault}
-use Rattle.lsp_verdict.specs.Placed.{Reads}
+use Rattle.lsp_verdict.specs.Placed.{ReadsAs, Raw, content, broken, show, new_fault, Reads}
 use Rattle.lsp_verdict.specs.Event.{Event, message, fault, snapshot}
-use Rattle.lsp_verdict.specs.Offences.{Noted, IsNoted, events_of}
-use Rattle.lsp_verdict.specs.Offences.{is_frame_fault}
+use Rattle.lsp_verdict.specs.Offences.{Noted, IsNoted, events_of, is_frame_fault}
 use Rattle.lsp_verdict.proofs.Sessions.Joined.{is_own}
 
 -- ---- frames: up to 106

@@ -1,8 +1,7 @@
 -- What is left of a side's bytes after its last whole frame.
 use Rattle.std.specs.Prelude.{if◌then◌else◌, map, filter}
 use Rattle.std.proofs.Common.{◌≡◌, ℕ, Bool, true, false, List, [], ◌∷◌, ◌++◌, Option, Some, None}
-use Rattle.std.proofs.Common.{IsSome, refl, sym, ap, subst, ◌∙◌, append_assoc, ◌+◌, ◌≤◌}
-use Rattle.std.proofs.Common.{arith}
+use Rattle.std.proofs.Common.{IsSome, refl, sym, ap, subst, ◌∙◌, append_assoc, ◌+◌, ◌≤◌, arith}
 use Rattle.lsp_frame.specs.Bounds.{Bounds, IsInRange}
 use Rattle.lsp_frame.specs.Decoder as decoder
 use Rattle.lsp_frame.specs.Frame.{IsStream}

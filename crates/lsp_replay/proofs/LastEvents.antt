@@ -1,7 +1,6 @@
 -- How a pass ends, with its log or before the first event.
-use Rattle.std.proofs.Common.{◌≡◌, ◌<◌, ◌^◌, ℕ, List, [], ◌++◌, Option, Some, None, IsSome}
-use Rattle.std.proofs.Common.{Result, Ok, Err, inr, refl, sym, ap, subst, ◌∙◌, append-nil, length}
-use Rattle.std.proofs.Common.{arith}
+use Rattle.std.proofs.Common.{◌≡◌, ◌<◌, ◌^◌, ℕ, List, [], ◌++◌, Option, Some, None, IsSome, Result}
+use Rattle.std.proofs.Common.{Ok, Err, inr, refl, sym, ap, subst, ◌∙◌, append-nil, length, arith}
 use Rattle.lsp_frame.specs.Bounds.{Bounds}
 use Rattle.lsp_frame.specs.Told.{Told}
 use Rattle.lsp_frame.specs.declared.format.Format.{Format}

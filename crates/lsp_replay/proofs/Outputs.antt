@@ -1,8 +1,7 @@
 -- A log has one output of a run that says exactly one thing of each event and of the end.
 use Rattle.std.specs.Prelude.{IfSome}
 use Rattle.std.proofs.Common.{◌≡◌, ◌⊎◌, ℕ, Bool, List, [], ◌∷◌, ◌++◌, Option, Some, None, true}
-use Rattle.std.proofs.Common.{false, inl, inr}
-use Rattle.std.proofs.Common.{refl, sym, ap, subst, ◌∙◌, append_assoc, append-nil}
+use Rattle.std.proofs.Common.{false, inl, inr, refl, sym, ap, subst, ◌∙◌, append_assoc, append-nil}
 use Rattle.std.specs.List.{AllZip}
 use Rattle.lsp_docs.specs.Documents.{Terms}
 use Rattle.lsp_frame.specs.Bounds.{Bounds, IsInRange}

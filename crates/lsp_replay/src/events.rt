@@ -1,6 +1,5 @@
 //! The events of a session, heard one after another.
-ghost use Rattle.std.specs.Prelude.{◌≡◌, [], List, IfErr, IfOk, None, OnErr, OnOk};
-ghost use Rattle.std.specs.Prelude.{Err, option_map};
+ghost use Rattle.std.specs.Prelude.{◌≡◌, [], List, IfErr, IfOk, None, OnErr, OnOk, Err, option_map};
 ghost use Rattle.lsp_rpc.specs.Fault.{IsUnspoken};
 ghost use Rattle.lsp_rpc.specs.View.{act_view};
 ghost use Rattle.lsp_docs.specs.Calls as spec;

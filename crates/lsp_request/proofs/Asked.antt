@@ -1,7 +1,6 @@
 -- What commands ask for, by what was found of their arguments.
-use Rattle.std.proofs.Common.{◌≡◌, ◌∙◌, ◌<◌, ◌==◌, ◌^◌, ℕ, false, List}
-use Rattle.std.proofs.Common.{option_map, Option, Some, None, Result, refl, sym, ap}
-use Rattle.std.proofs.Common.{subst, codes, arith, slice_index}
+use Rattle.std.proofs.Common.{◌≡◌, ◌∙◌, ◌<◌, ◌==◌, ◌^◌, ℕ, false, List, option_map, Option, Some}
+use Rattle.std.proofs.Common.{None, Result, refl, sym, ap, subst, codes, arith, slice_index}
 use Rattle.std.specs.Prelude.{MatchOption, unwrap_or}
 use Rattle.std.specs.Borrow.{Bor}
 use Rattle.std.specs.Int.NonZero.{non_zero_u64_get}
@@ -13,9 +12,7 @@ use Rattle.clap.specs.Words.{ReadsOne, Row, Text, all_of, matched_of, one_of, on
 use Rattle.clap.specs.Words.{rows_of}
 use Rattle.clap.specs.declared.parser.matches.Found.{Found}
 use Rattle.clap.proofs.WalkLemmas.{one_text-rows, raw_values-rows}
-use Rattle.lsp_request.specs.Words.{AsksText, GivesNumber}
-use Rattle.lsp_request.specs.Words.{HasTask, NumberIn}
-use Rattle.lsp_request.specs.Words.{inputs_of}
+use Rattle.lsp_request.specs.Words.{AsksText, GivesNumber, HasTask, NumberIn, inputs_of}
 use Rattle.lsp_request.specs.declared.command_line.task.Extent.{Extent}
 use Rattle.lsp_request.specs.declared.command_line.task.Rewrite.TheVariants as rewrites
 use Rattle.lsp_request.specs.declared.command_line.task.Task.{Task}

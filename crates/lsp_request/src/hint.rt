@@ -3,9 +3,8 @@ ghost use Rattle.std.specs.Prelude.{◌≡◌, ◌≤◌, drop, length, take};
 ghost use Rattle.std.specs.List.{prefix_len};
 ghost use Rattle.lsp_request.specs.Hints.{begins, has_line_ends, is_compressed, is_stream};
 ghost use Rattle.lsp_request.specs.Hints.{has_header, is_field, is_line_byte, is_name_byte};
-ghost use Rattle.lsp_request.specs.Hints.{has_no_header, log_hint, run_hint, session_hint};
-ghost use Rattle.lsp_request.specs.Hints.{hint_of, is_dated, is_labelled, is_timed, is_trace};
-ghost use Rattle.lsp_request.specs.Hints.{stream_hint};
+ghost use Rattle.lsp_request.specs.Hints.{has_no_header, log_hint, run_hint, session_hint, hint_of};
+ghost use Rattle.lsp_request.specs.Hints.{is_dated, is_labelled, is_timed, is_trace, stream_hint};
 
 use crate::task_outcome::TaskOutcome;
 use lsp_judge::{EventOutcome, Outcome, RunFault, StreamFault, Verdict};

@@ -1,5 +1,5 @@
 -- What the program's messages and acts are, apart from where their parts lie in memory.
-use Rattle.std.specs.Prelude.{List, map, option_map, string_bytes}
+use Rattle.std.specs.Prelude.{List, map, option_map, string_bytes, String}
 use Rattle.serde_json.specs.View.{view}
 use Rattle.lsp_rpc.specs.Ident.{id_view}
 use Rattle.lsp_rpc.specs.Message.{Message, request, notification, response, Reply, result, error}
@@ -15,7 +15,6 @@ use Rattle.lsp_rpc.specs.declared.act.Act.TheVariants as acts
 use Rattle.lsp_rpc.specs.declared.act.Offer as offer
 use Rattle.lsp_types.specs.declared.change.Change as change
 use Rattle.lsp_rpc.specs.declared.act.Picked as picked
-use Rattle.std.specs.Prelude.{String}
 use Rattle.std.specs.Cow.{cow_value}
 use Rattle.std.specs.declared.alloc.Global.{Global}
 use Rattle.std.specs.declared.borrow.Cow.{Cow}

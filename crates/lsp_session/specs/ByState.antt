@@ -11,8 +11,7 @@ use Rattle.lsp_session.specs.Lifecycle.{is_early, reports_on}
 use Rattle.lsp_session.specs.Negotiation.{first_row, settled_rule}
 use Rattle.lsp_session.specs.OpenInitialize.{Initialize}
 use Rattle.lsp_session.specs.Requests.{id_rule}
-use Rattle.lsp_session.specs.Sent.{is_exit, is_initialize, is_initialized, is_response}
-use Rattle.lsp_session.specs.Sent.{other_side}
+use Rattle.lsp_session.specs.Sent.{is_exit, is_initialize, is_initialized, is_response, other_side}
 use Rattle.lsp_session.specs.State.{State, agreed_in}
 use Rattle.lsp_session.specs.declared.negotiation.Agreed.{Agreed}
 use Rattle.lsp_types.specs.declared.rules.TheConstants as rules

@@ -34,11 +34,10 @@ use Rattle.lsp_verdict.specs.Heard.{Heard, heard_events, notes_of}
 use Rattle.lsp_verdict.specs.LookBack.{first_of}
 use Rattle.lsp_verdict.specs.Offences.{IsMalformed, IsNoted, IsReading, Noted, answered_by}
 use Rattle.lsp_verdict.specs.Offences.{asked_by, asks, breaks_handshake, broken_by, brought_by}
-use Rattle.lsp_verdict.specs.Offences.{events_of, follows, follows_bytes, follows_passed}
-use Rattle.lsp_verdict.specs.Offences.{is_lost, is_on_lost, is_passed, leaves_unheard}
-use Rattle.lsp_verdict.specs.Offences.{is_unsynced, leaves_unsynced}
-use Rattle.lsp_verdict.specs.Offences.{is_reopened, is_unheard, kept_of, left_by, may_answer}
-use Rattle.lsp_verdict.specs.Offences.{passes, rule_at, said_at}
+use Rattle.lsp_verdict.specs.Offences.{events_of, follows, follows_bytes, follows_passed, is_lost}
+use Rattle.lsp_verdict.specs.Offences.{is_on_lost, is_passed, leaves_unheard, is_unsynced}
+use Rattle.lsp_verdict.specs.Offences.{leaves_unsynced, is_reopened, is_unheard, kept_of, left_by}
+use Rattle.lsp_verdict.specs.Offences.{may_answer, passes, rule_at, said_at}
 use Rattle.lsp_verdict.specs.Placed.{Raw, Reads, broken, content, show}
 use Rattle.lsp_verdict.specs.Verdict.{offence}
 use Rattle.lsp_verdict.specs.declared.counts.Counts.{Counts}

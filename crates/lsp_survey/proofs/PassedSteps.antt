@@ -18,10 +18,8 @@ use Rattle.lsp_types.specs.declared.side.Side.TheVariants.{Editor, Server}
 use Rattle.lsp_verdict.specs.Event.{Event, fault}
 use Rattle.lsp_verdict.specs.Offences.{Noted, answered_by, asked_by, asked_from, follows_passed}
 use Rattle.lsp_verdict.specs.Offences.{is_any_passed, is_initialized_by, is_passed, is_unheard}
-use Rattle.lsp_verdict.specs.Offences.{leaves_unheard}
-use Rattle.lsp_verdict.specs.Offences.{passes, request_id, tells_initialized}
-use Rattle.lsp_survey.specs.Notes.{ArePassed, Passes, SetsRequest, SetsAny, has_any}
-use Rattle.lsp_survey.specs.Notes.{has_passed}
+use Rattle.lsp_verdict.specs.Offences.{leaves_unheard, passes, request_id, tells_initialized}
+use Rattle.lsp_survey.specs.Notes.{ArePassed, Passes, SetsRequest, SetsAny, has_any, has_passed}
 use Rattle.lsp_survey.specs.Lost.{IsMessageOf}
 use Rattle.lsp_survey.specs.declared.notes.passed.Passed.{Passed}
 

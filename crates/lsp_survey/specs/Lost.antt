@@ -17,10 +17,9 @@ use Rattle.lsp_types.specs.declared.side.Side.{Side}
 use Rattle.lsp_verdict.specs.Event.{calls, Event, message, sent_in}
 use Rattle.lsp_verdict.specs.Heard.{Heard, notes_of}
 use Rattle.lsp_verdict.specs.LookBack.{first_of}
-use Rattle.lsp_verdict.specs.Offences.{Noted, asks, breaks_handshake, broken_by}
-use Rattle.lsp_verdict.specs.Offences.{brought_by, events_of, follows, is_handshake_lost}
-use Rattle.lsp_verdict.specs.Offences.{is_lost, is_passed, is_reopened, leaves_unheard}
-use Rattle.lsp_verdict.specs.Offences.{is_unsynced, leaves_unsynced}
+use Rattle.lsp_verdict.specs.Offences.{Noted, asks, breaks_handshake, broken_by, brought_by}
+use Rattle.lsp_verdict.specs.Offences.{events_of, follows, is_handshake_lost, is_lost, is_passed}
+use Rattle.lsp_verdict.specs.Offences.{is_reopened, leaves_unheard, is_unsynced, leaves_unsynced}
 use Rattle.lsp_verdict.specs.Offences.{is_unheard, kept_of, may_answer, wants_handshake, wants_text}
 use Rattle.lsp_verdict.specs.Placed.{Raw, broken, content, show}
 

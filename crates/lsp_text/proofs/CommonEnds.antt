@@ -1,9 +1,8 @@
 -- Bytes that are the same at the ends of two slices, and what comes after a text in a text.
-use Rattle.std.proofs.Common.{◌≡◌, ◌≤◌, ◌+◌, ◌-◌, ℕ, List, ◌++◌, length, take, drop}
-use Rattle.std.proofs.Common.{sym, ap, ap₂, ◌∙◌, arith}
+use Rattle.std.proofs.Common.{◌≡◌, ◌≤◌, ◌+◌, ◌-◌, ℕ, List, ◌++◌, length, take, drop, sym, ap, ap₂}
+use Rattle.std.proofs.Common.{◌∙◌, arith, [], ◌∷◌, refl, subst, append_assoc}
 use Rattle.std.proofs.lemmas.List.{drop-drop, take-append-drop}
 use Rattle.lsp_text.specs.Parting.{AreSameEnds}
-use Rattle.std.proofs.Common.{[], ◌∷◌, refl, subst, append_assoc}
 use Rattle.std.specs.Str.{chars, IsUtf8}
 use Rattle.std.proofs.lemmas.Str.{encodes-chars, IsUtf8-past_char}
 use lib.Utf8.{encodes, encode}

@@ -7,9 +7,8 @@ use Rattle.std.proofs.lemmas.Bool.{false≢true, eqb-true, and_right}
 use Rattle.std.proofs.lemmas.List.{append-nil, append_assoc, append_cancel_left, nil_from_length}
 use Rattle.std.proofs.lemmas.List.{same_from_push}
 use Rattle.std.specs.List.{flat_map}
-use Rattle.lsp_text.specs.Lines.{Line, is_feed, is_return, starts_with_feed}
-use Rattle.lsp_text.specs.Lines.{has_no_line_end, before_end, before_line, put_before}
-use Rattle.lsp_text.specs.Lines.{lines_of, EndsWith}
+use Rattle.lsp_text.specs.Lines.{Line, is_feed, is_return, starts_with_feed, has_no_line_end}
+use Rattle.lsp_text.specs.Lines.{before_end, before_line, put_before, lines_of, EndsWith}
 use Rattle.lsp_text.specs.SameText.{compared, with_feeds, without_last_feed, is_nothing}
 use Rattle.lsp_text.specs.SameText.{with_feed, FeedsEndLines, SameTexts, ExactTexts}
 use Rattle.lsp_text.specs.SameText.{BeginsOtherwise, EndsOtherwise, StartsOtherwise, IsTaken, due}

@@ -5,8 +5,7 @@ ghost use Rattle.lsp_text.specs.InsideCharacter.{PositionsLieInside};
 ghost use Rattle.lsp_text.specs.Lines.{LinesAreTheCut, LinesOfJoined};
 ghost use Rattle.lsp_text.specs.Places.{PlacesAreDenoted, OnePlaceAtMost, NoneInsideLineEnd};
 ghost use Rattle.lsp_text.specs.Places.{CharactersDenote};
-ghost use Rattle.lsp_text.specs.SameText.{ExactTexts, FeedsEndLines, SameByLines};
-ghost use Rattle.lsp_text.specs.SameText.{SameTexts};
+ghost use Rattle.lsp_text.specs.SameText.{ExactTexts, FeedsEndLines, SameByLines, SameTexts};
 
 /// Every text has exactly one cut into lines, as LSP 3.17, "Text Documents", has them: each line
 /// but the last ends with CR LF, LF or CR, none has a line end inside, and no CR before an LF ends

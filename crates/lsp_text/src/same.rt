@@ -5,9 +5,8 @@ ghost use Rattle.std.specs.Prelude.{IfOk, string_bytes};
 ghost use Rattle.std.specs.Str.{chars};
 ghost use Rattle.lsp_types.specs.declared.line_ends.LineEnds.TheVariants.{Ignored};
 ghost use Rattle.lsp_text.specs.Lines.{has_no_line_end};
-ghost use Rattle.lsp_text.specs.SameText.{SameText, compared, with_feeds, due};
-ghost use Rattle.lsp_text.specs.SameText.{BeginsOtherwise, EndsOtherwise, IsTaken};
-ghost use Rattle.lsp_text.specs.SameText.{StartsOtherwise};
+ghost use Rattle.lsp_text.specs.SameText.{SameText, compared, with_feeds, due, BeginsOtherwise};
+ghost use Rattle.lsp_text.specs.SameText.{EndsOtherwise, IsTaken, StartsOtherwise};
 
 use crate::cut::FirstLine;
 use lsp_types::Memory;

@@ -22,9 +22,8 @@ use Rattle.lsp_verdict.proofs.LookBackLemmas.{each_of-snoc}
 use Rattle.lsp_replay.specs.Lines.{place_of}
 use Rattle.lsp_replay.specs.declared.heard.EventPlace.{EventPlace}
 use Rattle.lsp_trail.specs.History.{HoldsLast, last_ones, last_that, since_last, with_room}
-use Rattle.lsp_trail.specs.History.{KeptCall, doing}
-use Rattle.lsp_trail.specs.History.{each_kept, kept_as, OnDocument, is_change, is_closing}
-use Rattle.lsp_trail.specs.History.{is_opening, is_showing}
+use Rattle.lsp_trail.specs.History.{KeptCall, doing, each_kept, kept_as, OnDocument, is_change}
+use Rattle.lsp_trail.specs.History.{is_closing, is_opening, is_showing}
 use Rattle.lsp_trail.specs.declared.step.Step.{Step}
 use Rattle.lsp_trail.specs.Openings.{OpenedBy, OpensBy, Touches, most_closings}
 use Rattle.lsp_trail.specs.Openings.{most_openings, names_view, touched, with_name}

@@ -22,8 +22,7 @@ use Rattle.lsp_verdict.specs.Given.{raw_view}
 use Rattle.lsp_verdict.specs.Placed.{Reads, content}
 use Rattle.lsp_verdict.specs.declared.raw.Raw as code_raw
 use Rattle.lsp_verdict.specs.declared.raw.Raw.TheVariants as raws
-use Rattle.lsp_trail.specs.Naming.{diagnoses, is_call, params_of, version_named}
-use Rattle.lsp_trail.specs.Naming.{version_named_at}
+use Rattle.lsp_trail.specs.Naming.{diagnoses, is_call, params_of, version_named, version_named_at}
 
 -- ---- whether it may name one
 

@@ -19,8 +19,8 @@ use Rattle.lsp_session.proofs.Steps.{option_or-none}
 use Rattle.lsp_session.specs.Handshake.{Settled, first_settled, is_done, is_empty, open_initializes}
 use Rattle.lsp_session.specs.Handshake.{phase, was_sent}
 use Rattle.lsp_session.specs.Sent.{Sent, answered_from, is_exit, is_initialized, is_shutdown}
-use Rattle.lsp_session.specs.Requests.{names}
 use Rattle.lsp_session.specs.Sent.{same_side}
+use Rattle.lsp_session.specs.Requests.{names}
 use Rattle.lsp_session.specs.Negotiation.{agreed_at, encoding, sync_kind}
 use Rattle.lsp_session.specs.State.{State, state_of}
 use Rattle.lsp_session.specs.declared.phase.Phase.{Phase}

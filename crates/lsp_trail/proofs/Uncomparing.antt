@@ -6,8 +6,7 @@ use Rattle.std.proofs.Common.{◌≡◌, Bool, true, false, List, [], ◌∷◌,
 use Rattle.std.proofs.Common.{refl, ap, ◌∙◌, append-nil, sym}
 use Rattle.std.proofs.lemmas.List.{reverse-append}
 use Rattle.lsp_docs.specs.Calls.{Bytes}
-use Rattle.lsp_trail.specs.Uncompared.{LeftOf, is_left_of, last_left}
-use Rattle.lsp_trail.specs.Uncompared.{left_on}
+use Rattle.lsp_trail.specs.Uncompared.{LeftOf, is_left_of, last_left, left_on}
 
 -- this is left behind the others
 pub left_more : (uri : Bytes) (all : List LeftOf) (o : Option LeftOf)

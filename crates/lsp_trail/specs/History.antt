@@ -1,8 +1,7 @@
 -- What the kept events of a session do, each with its place.
-use Rattle.std.specs.Prelude.{◌≡◌, ◌++◌, ℕ, ◌-◌, Bool, List, Option, drop, length, map, nat_lt}
-use Rattle.std.specs.Prelude.{not, reverse}
-use Rattle.std.specs.Prelude.{if◌then◌else◌, Some, None, true, false, is_some, option_and_then}
-use Rattle.std.specs.Prelude.{option_map}
+use Rattle.std.specs.Prelude.{◌≡◌, ◌++◌, ℕ, ◌-◌, Bool, List, Option, drop, length, map, nat_lt, not}
+use Rattle.std.specs.Prelude.{reverse, if◌then◌else◌, Some, None, true, false, is_some}
+use Rattle.std.specs.Prelude.{option_and_then, option_map}
 use Rattle.std.specs.List.{find, take_while, filter_map}
 use Rattle.lsp_docs.specs.Calls.{Call, opens, changes, closes, shows, uri_of}
 use Rattle.lsp_docs.specs.Documents.{Terms}

@@ -1,7 +1,6 @@
 -- The last message that changed a document, with its changes.
-use Rattle.std.specs.Prelude.{◌≡◌, ◌&&◌, ℕ, List, [], ◌∷◌, ◌==◌, Bool, true, false}
-use Rattle.std.specs.Prelude.{Option, Some, None, option_and_then, option_map}
-use Rattle.std.specs.Prelude.{if◌then◌else◌, nat_lt, not}
+use Rattle.std.specs.Prelude.{◌≡◌, ◌&&◌, ℕ, List, [], ◌∷◌, ◌==◌, Bool, true, false, Option, Some}
+use Rattle.std.specs.Prelude.{None, option_and_then, option_map, if◌then◌else◌, nat_lt, not}
 use Rattle.std.specs.List.{last_or}
 use Rattle.std.specs.Str.{bytes_eq}
 use Rattle.lsp_docs.specs.Calls.{Call, changes}

@@ -7,8 +7,7 @@ ghost use Rattle.lsp_docs.specs.State.{Stands};
 ghost use Rattle.lsp_docs.specs.Taken.{call_view};
 ghost use Rattle.lsp_text.specs.Changes.{edits_of};
 ghost use Rattle.lsp_trail.specs.Bases.{AddedAt, AddedBy, Begun, BegunBy, ChangesOne, ClosedBy};
-ghost use Rattle.lsp_trail.specs.Bases.{KeepsBy, ShownBy};
-ghost use Rattle.lsp_trail.specs.Bases.{held_of, sent_by};
+ghost use Rattle.lsp_trail.specs.Bases.{KeepsBy, ShownBy, held_of, sent_by};
 ghost use Rattle.lsp_trail.specs.SentEdits.{SentEdits, sent_edits};
 ghost use Rattle.lsp_trail.specs.Marking.{IsAt};
 

@@ -8,9 +8,8 @@ ghost use Rattle.std.specs.Map.{lookup};
 ghost use Rattle.std.specs.Ordering.{int_eq};
 ghost use Rattle.lsp_trail.specs.History.{is_closing};
 ghost use Rattle.lsp_trail.specs.Marking.{above, finds_equal, is_set_to, last_shown, newer};
-ghost use Rattle.lsp_trail.specs.Marking.{newer_of};
-ghost use Rattle.lsp_trail.specs.Marking.{rank_of, stepped, unmarked};
-ghost use Rattle.lsp_trail.specs.Marking.{is_first_reached, mark_view, rest_of, waiting_in};
+ghost use Rattle.lsp_trail.specs.Marking.{newer_of, rank_of, stepped, unmarked, is_first_reached};
+ghost use Rattle.lsp_trail.specs.Marking.{mark_view, rest_of, waiting_in};
 
 use crate::last_ones::push_within;
 use crate::step::Step;

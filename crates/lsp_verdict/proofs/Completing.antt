@@ -17,8 +17,8 @@ use Rattle.lsp_verdict.specs.Complete.{IsBroughtToEnd, NamesLack, AreComplete, A
 use Rattle.lsp_verdict.specs.Complete.{completed, IsCompleteFinal, IsCompleteVerdict}
 use Rattle.lsp_verdict.specs.Laws.{SomeCompleteVerdict, OneCompleteVerdict, CompleteMeansEnded}
 use Rattle.lsp_verdict.specs.Laws.{EndedMeansComplete, LackIsNamed, CompleteMeansFault}
-use Rattle.lsp_verdict.specs.Event.{Event, sent_in}
 use Rattle.lsp_verdict.specs.Laws.{Names, HasRest107, merged}
+use Rattle.lsp_verdict.specs.Event.{Event, sent_in}
 use Rattle.lsp_verdict.specs.Kept.{NothingOffends, AreFrames}
 use Rattle.lsp_verdict.specs.Outcome.{IsFinal, IsVerdict}
 use Rattle.lsp_verdict.specs.Placed.{IsSession, joined}

@@ -18,8 +18,7 @@ use Rattle.serde_json.specs.Data.{Data, object, no_members, put}
 use Rattle.serde_json.proofs.Views.{get_member-put, get_member-put_other}
 use Rattle.lsp_walk.proofs.Walking.{object_value, no_members_yet, member_turn, last_member, byte}
 use Rattle.lsp_walk.specs.Places.{KeepsBoth}
-use Rattle.lsp_walk.specs.Walk.{IsKey, IsValue, Stand, line_key, character_key}
-use Rattle.lsp_walk.specs.Walk.{start_key, end_key}
+use Rattle.lsp_walk.specs.Walk.{IsKey, IsValue, Stand, line_key, character_key, start_key, end_key}
 
 pub differ : (q k : List ℕ) → bytes_eq q k ≡ false → q ≡ k → ⊥
 differ q k h e = true≢false (sym ((bytes_eq-Decides q k).1 e) ∙ h)

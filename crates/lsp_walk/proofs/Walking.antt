@@ -29,9 +29,8 @@ use Rattle.serde_json.specs.Read.{read}
 use Rattle.lsp_walk.specs.declared.walk.Kind.TheVariants as kinds
 use Rattle.lsp_walk.specs.Walk.{kind_at, tokens_from, part, IsText, IsNumeral, IsNatural}
 use Rattle.lsp_walk.specs.Walk.{IsLiteral, IsValue, AreItems, AreMembers, SomeItems, IsKey}
-use Rattle.lsp_walk.proofs.Lexing.{lex_operator, lex_quote, key_first, string_first}
-use Rattle.lsp_walk.proofs.Lexing.{object_first, array_first, object_last, array_last}
-use Rattle.lsp_walk.proofs.Lexing.{comma_next, word_first}
+use Rattle.lsp_walk.proofs.Lexing.{lex_operator, lex_quote, key_first, string_first, object_first}
+use Rattle.lsp_walk.proofs.Lexing.{array_first, object_last, array_last, comma_next, word_first}
 use Rattle.lsp_walk.proofs.Skipping.{converted_some, some_of, array_passed, object_passed}
 use Rattle.lsp_walk.proofs.Skipping.{item_passed, items_passed, member_passed, members_passed}
 use Rattle.lsp_walk.proofs.Skipping.{nothing_before, parse_map-twice, whole_passed}

@@ -11,8 +11,7 @@ use Rattle.json.specs.Word.{ends_word, is_operator, is_space}
 use Rattle.json.specs.Print.{IsNumber}
 use Rattle.json.specs.Lex.{lex, between, in_string, Place, fresh, after_value, may_begin, punctuate}
 use Rattle.json.specs.Json.{value, items, members, parse_map, read_key}
-use Rattle.serde_json.specs.Data.{unsigned, Data, null, array, object}
-use Rattle.serde_json.specs.Data.{Items, Members, no_members}
+use Rattle.serde_json.specs.Data.{unsigned, Data, null, array, object, Items, Members, no_members}
 use Rattle.serde_json.specs.Read.{of_json, of_items, of_members, converted, number_of}
 use Rattle.lsp_walk.specs.declared.walk.Kind.{Kind}
 use Rattle.lsp_walk.specs.declared.walk.Kind.TheVariants as kinds

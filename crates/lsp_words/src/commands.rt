@@ -2,13 +2,11 @@
 ghost use Rattle.std.specs.Prelude.{◌≡◌, [], IfOk, IsOkAnd, true};
 ghost use Rattle.clap.specs.Words.{AddsSubcommand, app_of, shape_of};
 ghost use Rattle.lsp_words.specs.CommandLine.{AreModes, IsArg, IsCommandLine, Modes, check};
-ghost use Rattle.lsp_words.specs.CommandLine.{check_options, event, text_options};
-ghost use Rattle.lsp_words.specs.CommandLine.{explain, file, files, flag, frames, mode, normal};
-ghost use Rattle.lsp_words.specs.CommandLine.{explain_options, explained_options};
-ghost use Rattle.lsp_words.specs.CommandLine.{ignore_line_ends, json};
-ghost use Rattle.lsp_words.specs.CommandLine.{show_options};
-ghost use Rattle.lsp_words.specs.CommandLine.{number, program, quiet, redact, show, text, upgrade};
-ghost use Rattle.lsp_words.specs.CommandLine.{uri};
+ghost use Rattle.lsp_words.specs.CommandLine.{check_options, event, text_options, explain, file};
+ghost use Rattle.lsp_words.specs.CommandLine.{files, flag, frames, mode, normal, explain_options};
+ghost use Rattle.lsp_words.specs.CommandLine.{explained_options, ignore_line_ends, json};
+ghost use Rattle.lsp_words.specs.CommandLine.{show_options, number, program, quiet, redact, show};
+ghost use Rattle.lsp_words.specs.CommandLine.{text, upgrade, uri};
 
 use clap::{Arg, ArgAction, Command, value_parser};
 use std::alloc::{AllocError, Global};

@@ -19,18 +19,16 @@ use Rattle.lsp_verdict.specs.LookBack.{first_from, first_of, each_from, each_of}
 use Rattle.lsp_verdict.specs.Laws.{KeptOffendNowhere, kept_at, KeptAreOthers, AllAreKept}
 use Rattle.lsp_verdict.specs.Laws.{NothingListed, FirstListed, IsOffence, IsListed, ListedOffend}
 use Rattle.lsp_verdict.specs.Offences.{Noted, Offence, events_of, kept_after, kept_of, rule_at}
-use Rattle.lsp_verdict.specs.Offences.{is_reopened, said_at, renews, left_lost, left_by}
-use Rattle.lsp_verdict.specs.Offences.{brought_by, lost_by}
-use Rattle.lsp_verdict.specs.Offences.{last_or, is_lost, asks, breaks_handshake, may_answer}
-use Rattle.lsp_verdict.specs.Offences.{broken_by, is_handshake_lost}
-use Rattle.lsp_verdict.specs.Offences.{has_broken, unread_by, is_unread}
-use Rattle.lsp_verdict.specs.Offences.{wants_other, follows_bytes, wants_handshake, wants_text}
-use Rattle.lsp_verdict.specs.Offences.{is_on_lost, asked_by, answered_by, passes, passed_by}
-use Rattle.lsp_verdict.specs.Offences.{is_passed, is_any_passed, follows_passed, follows}
-use Rattle.lsp_verdict.specs.Offences.{is_unheard, leaves_unheard, unheard_by}
-use Rattle.lsp_verdict.specs.Offences.{answers_content, has_no_message, is_nameless, is_unsynced}
-use Rattle.lsp_verdict.specs.Offences.{leaves_unsynced, unsynced_by}
-use Rattle.lsp_verdict.specs.Offences.{offence_by, offence_at, offences}
+use Rattle.lsp_verdict.specs.Offences.{is_reopened, said_at, renews, left_lost, left_by, brought_by}
+use Rattle.lsp_verdict.specs.Offences.{lost_by, last_or, is_lost, asks, breaks_handshake}
+use Rattle.lsp_verdict.specs.Offences.{may_answer, broken_by, is_handshake_lost, has_broken}
+use Rattle.lsp_verdict.specs.Offences.{unread_by, is_unread, wants_other, follows_bytes}
+use Rattle.lsp_verdict.specs.Offences.{wants_handshake, wants_text, is_on_lost, asked_by}
+use Rattle.lsp_verdict.specs.Offences.{answered_by, passes, passed_by, is_passed, is_any_passed}
+use Rattle.lsp_verdict.specs.Offences.{follows_passed, follows, is_unheard, leaves_unheard}
+use Rattle.lsp_verdict.specs.Offences.{unheard_by, answers_content, has_no_message, is_nameless}
+use Rattle.lsp_verdict.specs.Offences.{is_unsynced, leaves_unsynced, unsynced_by, offence_by}
+use Rattle.lsp_verdict.specs.Offences.{offence_at, offences}
 use Rattle.lsp_verdict.specs.Verdict.{Verdict, offence, no_by, no_at, first_no}
 use Rattle.lsp_verdict.proofs.Finding.{nothing_from, nothing_at, map_none, not_empty}
 use Rattle.lsp_verdict.proofs.LookBackLemmas.{first_of-snoc, first_of-append, each_from-append, each_of-snoc, or_none_parts}

@@ -1,8 +1,8 @@
 use Rattle.std.proofs.Common.{◌≡◌, suc, ◌-◌, ◌*◌, ◌%◌, ◌^◌, ◌<◌, sym, ap, subst, ◌∙◌, arith, w64, bit_and}
+use Rattle.std.proofs.Common.{pow_pos, pow_mono}
 use Rattle.std.specs.Int.{bit_not}
 use Rattle.std.proofs.lemmas.Nat.Bits.{bit_at_clear_same, bit_at_clear_other, bit_at_and, and_pow}
 use Rattle.std.proofs.lemmas.Nat.{and-not, and_comm}
-use Rattle.std.proofs.Common.{pow_pos, pow_mono}
 use Rattle.std.proofs.Math.Nat.{two-pow-succ}
 use Rattle.lsp_lined.proofs.marks.without.Goals as goal
 

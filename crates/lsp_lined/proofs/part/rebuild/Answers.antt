@@ -2,8 +2,7 @@ use Rattle.std.proofs.Common.{◌≡◌, ◌+◌, List, ℕ, length, map, refl, 
 use Rattle.std.proofs.lemmas.List.{length-map}
 use Rattle.lsp_types.specs.declared.position.Encoding.TheVariants.{Utf8}
 use Rattle.lsp_lined.specs.Sums.{sums_of}
-use Rattle.lsp_lined.specs.Parts.{joined, AreParts, IsFound, IsFoundBefore}
-use Rattle.lsp_lined.specs.Parts.{IsReplacedIn}
+use Rattle.lsp_lined.specs.Parts.{joined, AreParts, IsFound, IsFoundBefore, IsReplacedIn}
 use Rattle.lsp_lined.specs.declared.sums.Measure.TheVariants.{Units}
 use Rattle.lsp_lined.proofs.Recuts.{AreFound, first_cut, second_cut, cut_fits, cut_order, cut_done}
 use Rattle.lsp_lined.proofs.Recuts.{map-splice}

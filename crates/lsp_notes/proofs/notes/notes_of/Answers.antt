@@ -6,8 +6,7 @@ use Rattle.lsp_verdict.specs.Given.{verdict_view}
 use Rattle.lsp_notes.specs.DocumentNotes.{document_line, notes_view}
 use Rattle.lsp_notes.specs.declared.document_notes.DocumentNote as code
 use Rattle.lsp_facts.specs.Fact.{Fact}
-use Rattle.lsp_notes.specs.Notes.{exit_notes, misuse_line, name_notes, old_name_notes}
-use Rattle.lsp_notes.specs.Notes.{uncompared}
+use Rattle.lsp_notes.specs.Notes.{exit_notes, misuse_line, name_notes, old_name_notes, uncompared}
 use Rattle.lsp_trail.specs.Trails.{terms_in}
 use Rattle.lsp_notes.proofs.notes.notes_of.Goals as goal
 

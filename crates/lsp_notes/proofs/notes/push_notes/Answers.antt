@@ -3,8 +3,7 @@ use Rattle.std.proofs.Common.{◌++◌, ap, ◌∙◌, append_assoc, string_byte
 use Rattle.std.proofs.lemmas.Result.{on_ok_weaker}
 use Rattle.lsp_facts.specs.Fact.{fact_lines}
 use Rattle.lsp_verdict.specs.Given.{verdict_view}
-use Rattle.lsp_notes.specs.Notes.{count_line, note_lines, notes_by, noticed, with_exit}
-use Rattle.lsp_notes.specs.Notes.{with_server}
+use Rattle.lsp_notes.specs.Notes.{count_line, note_lines, notes_by, noticed, with_exit, with_server}
 use Rattle.lsp_trail.specs.Trails.{terms_in}
 use Rattle.lsp_notes.proofs.notes.push_notes.Goals as goal
 

@@ -1,7 +1,6 @@
-use Rattle.std.specs.Prelude.{if◌then◌else◌}
+use Rattle.std.specs.Prelude.{if◌then◌else◌, codes}
 use Rattle.std.proofs.Common.{[], ◌∷◌, ◌++◌, ◌∙◌, Bool, ap, append-nil, sym}
 use Rattle.std.proofs.lemmas.Result.{on_ok_weaker}
-use Rattle.std.specs.Prelude.{codes}
 use Rattle.lsp_facts.specs.Fact.{cited}
 use Rattle.lsp_origins.proofs.unrisen.push_same.Goals as goal
 

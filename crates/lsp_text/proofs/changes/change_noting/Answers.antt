@@ -1,8 +1,7 @@
-use Rattle.std.proofs.Common.{sym}
+use Rattle.std.proofs.Common.{sym, ap, ◌∙◌}
 use Rattle.lsp_text.proofs.Edits.Applied.{on_ok_always}
 use Rattle.lsp_text.proofs.FoundChanges.{noted-nothing}
 use Rattle.lsp_text.specs.Findings.{noted, found_of}
-use Rattle.std.proofs.Common.{ap, ◌∙◌}
 use Rattle.lsp_text.proofs.changes.change_noting.Goals as goal
 
 pub returns-in-None-clause-found : goal.returns-in-None-clause-found

@@ -2,8 +2,7 @@ use Rattle.std.proofs.Common.{◌≡◌, ◌+◌, ◌-◌, drop, ap, ◌∙◌, 
 use Rattle.std.proofs.lemmas.Grind.{common_steps}
 use Rattle.std.proofs.lemmas.List.{length-drop}
 use Rattle.json.specs.Lex.{lex, in_string}
-use Rattle.lsp_walk.proofs.Strings.{content-after_high, short_after_high, len_utf8-le}
-use Rattle.lsp_walk.proofs.Strings.{slash_passed}
+use Rattle.lsp_walk.proofs.Strings.{content-after_high, short_after_high, len_utf8-le, slash_passed}
 use Rattle.lsp_walk.proofs.texts.low_half.Goals as goal
 
 pub returns-then-bytes-at-lt6-clause-value : goal.returns-then-bytes-at-lt6-clause-value

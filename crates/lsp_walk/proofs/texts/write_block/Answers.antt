@@ -3,8 +3,7 @@ use Rattle.std.proofs.lemmas.List.{length-set}
 use Rattle.std.proofs.lemmas.Option.{IfSome_then}
 use Rattle.std.proofs.lemmas.Simd.{length-chunk}
 use Rattle.std.specs.Int.Count.{count_trailing_zeros}
-use Rattle.lsp_walk.proofs.LongBlocks.{begun, first_stop, to_stop, to_end, past_escape}
-use Rattle.lsp_walk.proofs.LongBlocks.{written_on}
+use Rattle.lsp_walk.proofs.LongBlocks.{begun, first_stop, to_stop, to_end, past_escape, written_on}
 use Rattle.lsp_walk.proofs.texts.write_block.Goals as goal
 
 pub stops-stops-requires : goal.stops-stops-requires

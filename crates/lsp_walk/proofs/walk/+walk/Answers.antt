@@ -1,10 +1,9 @@
 use Rattle.std.proofs.Common.{true, false, arith}
 use Rattle.std.proofs.lemmas.Option.{IfSome_then}
 use Rattle.serde_json.specs.Data.{string, boolean, null, array, object, no_items, no_members, put}
-use Rattle.lsp_walk.proofs.Walking.{number_value, true_value, false_value}
-use Rattle.lsp_walk.proofs.Walking.{null_value, array_value, object_value, no_items_yet}
-use Rattle.lsp_walk.proofs.Walking.{item_turn, last_item, without_items, no_members_yet}
-use Rattle.lsp_walk.proofs.Walking.{member_turn, last_member, without_members}
+use Rattle.lsp_walk.proofs.Walking.{number_value, true_value, false_value, null_value, array_value}
+use Rattle.lsp_walk.proofs.Walking.{object_value, no_items_yet, item_turn, last_item, without_items}
+use Rattle.lsp_walk.proofs.Walking.{no_members_yet, member_turn, last_member, without_members}
 use Rattle.lsp_walk.proofs.walk.+walk.Goals as goal
 
 pub value_end-returns-in-34 : goal.value_end-returns-in-34

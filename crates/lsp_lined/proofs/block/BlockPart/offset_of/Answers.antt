@@ -1,8 +1,7 @@
 use Rattle.std.proofs.Common.{List, ℕ, ap, arith, sym, ◌∙◌}
 use Rattle.std.specs.Str.{chars}
 use Rattle.lsp_text.specs.Places.{units}
-use Rattle.lsp_lined.proofs.BlockPlaces.{held_text, block_past, block_plain, width_fits}
-use Rattle.lsp_lined.proofs.BlockPlaces.{width_is}
+use Rattle.lsp_lined.proofs.BlockPlaces.{held_text, block_past, block_plain, width_fits, width_is}
 use Rattle.lsp_lined.proofs.block.BlockPart.offset_of.Goals as goal
 
 pub returns-then-width-column : goal.returns-then-width-column

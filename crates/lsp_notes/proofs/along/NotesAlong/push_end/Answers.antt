@@ -5,8 +5,7 @@ use Rattle.lsp_facts.specs.Fact.{fact_lines}
 use Rattle.lsp_verdict.specs.Given.{verdict_view}
 use Rattle.lsp_verdict.specs.Heard.{heard_events}
 use Rattle.lsp_notes.specs.AllNotes.{found_along, sound_events}
-use Rattle.lsp_notes.specs.Notes.{count_line, notes_by, noticed, uncompared, with_exit}
-use Rattle.lsp_notes.specs.Notes.{with_server}
+use Rattle.lsp_notes.specs.Notes.{count_line, notes_by, noticed, uncompared, with_exit, with_server}
 use Rattle.lsp_trail.specs.Openings.{names_view, unshown}
 use Rattle.lsp_trail.specs.Trails.{terms_in}
 use Rattle.lsp_notes.proofs.along.NotesAlong.push_end.Goals as goal

@@ -14,8 +14,7 @@ use Rattle.lsp_notes.specs.DocumentNotes.{notes_view, with_note}
 use Rattle.lsp_trail.specs.Openings.{AreOpenings}
 use Rattle.lsp_trail.proofs.Saving.{calls_after}
 use Rattle.lsp_notes.specs.Spellings.{HoldsOthers, spelling_note, unopened_by}
-use Rattle.lsp_notes.proofs.OtherSpellings.{called_none, called_one, none_before}
-use Rattle.lsp_notes.proofs.OtherSpellings.{unopened_before}
+use Rattle.lsp_notes.proofs.OtherSpellings.{called_none, called_one, none_before, unopened_before}
 use Rattle.lsp_notes.proofs.spellings.Spellings.note_call.Goals as goal
 
 -- its document is open
