@@ -44,8 +44,9 @@ change_closes uri _ h = refl
 entry_last : (cl ch : Bool) (xs : List Version) → (cl ≡ true → ch ≡ false)
     → (if ch && not false then xs else []) ++ [] ≡ (if cl then [] else (if ch then xs else []))
 entry_last true true xs h = absurd (true≢false (h refl))
+entry_last true false xs h = refl
 entry_last false true xs h = append-nil xs
-entry_last _ false xs h = refl
+entry_last false false xs h = refl
 
 entry_more : (ch l cl : Bool) (xs ys zs : List Version)
     → (if ch && not (l || (cl || false)) then xs else []) ++ (if cl then [] else ys ++ zs)
