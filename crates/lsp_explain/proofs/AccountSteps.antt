@@ -4,22 +4,17 @@ use Rattle.std.specs.List.{cons_option}
 use Rattle.std.proofs.Common.{◌≡◌, ℕ, Bool, true, false, List, [], ◌∷◌, ◌++◌, Option, Some, None, refl}
 use Rattle.std.proofs.Common.{sym, ap, ◌∙◌, subst, append_assoc, append-nil}
 use Rattle.std.proofs.Math.Bool.{or-true}
-use Rattle.lsp_docs.specs.Documents.{Terms}
-use Rattle.lsp_replay.specs.Telling.{Says, rule_of}
+use Rattle.lsp_trail.specs.Common.{Breach, breach, broken, Completeness, content, Event, Heard}
+use Rattle.lsp_trail.specs.Common.{heard_events, IsNoted, IsTrail, Judged, no_by, notes_of, Offence}
+use Rattle.lsp_trail.specs.Common.{offence_at, offence_by, Raw, Rests, rule_at, rule_of, Says, show}
+use Rattle.lsp_trail.specs.Common.{Terms, Verdict, verdict_view}
 use Rattle.lsp_replay.specs.declared.seen.Flow.TheVariants.{GoOn, Stop}
 use Rattle.lsp_replay.proofs.PassEnds.{Boxed}
 use Rattle.lsp_replay.proofs.AllHeard.{first_after, none_is}
 use Rattle.lsp_survey.specs.Lost.{WasTold, follows_at, may_lose}
 use Rattle.lsp_survey.specs.Reported.{IsTally}
 use Rattle.lsp_survey.proofs.SurveySteps.{kept_tally, offence_tally}
-use Rattle.lsp_verdict.specs.Event.{Event}
-use Rattle.lsp_verdict.specs.Given.{verdict_view}
-use Rattle.lsp_verdict.specs.Heard.{Heard, Rests, heard_events, notes_of}
-use Rattle.lsp_verdict.specs.Offences.{IsNoted, Offence, follows, offence_at, offence_by, rule_at}
-use Rattle.lsp_verdict.specs.Placed.{Raw, broken, content, show}
-use Rattle.lsp_verdict.specs.Verdict.{Verdict, no_by}
-use Rattle.lsp_verdict.specs.declared.completeness.Completeness.{Completeness}
-use Rattle.lsp_verdict.specs.declared.outcome.Outcome.TheVariants.{Judged}
+use Rattle.lsp_verdict.specs.Offences.{follows}
 use Rattle.lsp_verdict.specs.declared.verdict.Verdict as code
 use Rattle.lsp_explain.specs.ExplainRuns.{AllStands, FirstStands, SaysCauses, SaysFirst, all_run}
 use Rattle.lsp_explain.specs.ExplainRuns.{cause_at, explain_run, first_lines, has_cause, may_keep}
@@ -27,8 +22,6 @@ use Rattle.lsp_origins.specs.Explained.{cause_lines, is_cause, TellsOf}
 use Rattle.lsp_notes.specs.MessageNotes.{AreNoted}
 use Rattle.lsp_notes.specs.Misfits.{AreMisfits, found_kept}
 use Rattle.lsp_notes.specs.Notes.{note_lines, notes_by, noticed_by}
-use Rattle.lsp_trail.specs.Trails.{IsTrail}
-use Rattle.lsp_trail.specs.Breaches.{Breach, breach}
 use Rattle.lsp_explain.specs.declared.run.FirstOffence.{FirstOffence}
 use Rattle.lsp_explain.specs.declared.run_all.AllCauses.{AllCauses}
 

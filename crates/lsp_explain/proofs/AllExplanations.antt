@@ -6,26 +6,21 @@ use Rattle.std.proofs.Common.{inr, refl, sym, ap, ◌∙◌, append_assoc, appen
 use Rattle.std.proofs.lemmas.List.{map-append}
 use Rattle.std.proofs.lemmas.List.Elements.{filter-append}
 use Rattle.std.proofs.lemmas.List.Concat.{flat_map-append}
-use Rattle.lsp_docs.specs.Documents.{Terms}
-use Rattle.lsp_replay.specs.Run.{Tail}
+use Rattle.lsp_trail.specs.Common.{bad_log_of, breach, by_itself, Completeness, each_from, ending}
+use Rattle.lsp_trail.specs.Common.{events_of, first_no, first_verdict, Heard, heard_events}
+use Rattle.lsp_trail.specs.Common.{log_terms, notes_of, Numbered, numbered, Offence, offence_at}
+use Rattle.lsp_trail.specs.Common.{offence_by, offences, Outcome, Rests, rule_at, summary, Tail}
+use Rattle.lsp_trail.specs.Common.{Terms, Verdict}
 use Rattle.lsp_replay.specs.RunLaws.{SaysOn}
 use Rattle.lsp_survey.specs.SessionEnds.{all_found, ends_of}
 use Rattle.lsp_survey.proofs.SurveyRuns.{all_answers}
 use Rattle.lsp_survey.proofs.SurveySteps.{survey_told}
-use Rattle.lsp_verdict.specs.Heard.{Heard, Rests, heard_events, notes_of}
-use Rattle.lsp_verdict.specs.LookBack.{each_from}
-use Rattle.lsp_verdict.specs.Offences.{Noted, Offence, events_of, offence_at, offence_by, offences}
-use Rattle.lsp_verdict.specs.Offences.{rule_at}
-use Rattle.lsp_verdict.specs.Outcome.{ending, log_terms}
-use Rattle.lsp_verdict.specs.Survey.{by_itself, ends_listed, first_verdict, found_in, shown_of}
-use Rattle.lsp_verdict.specs.Verdict.{Ending, Verdict, bad_log_of, first_no, summary}
-use Rattle.lsp_verdict.specs.declared.completeness.Completeness.{Completeness}
-use Rattle.lsp_verdict.specs.declared.outcome.Outcome.{Outcome}
+use Rattle.lsp_verdict.specs.Offences.{Noted}
+use Rattle.lsp_verdict.specs.Survey.{ends_listed, found_in, shown_of}
+use Rattle.lsp_verdict.specs.Verdict.{Ending}
 use Rattle.lsp_verdict.proofs.LookBackLemmas.{cons_append}
 use Rattle.lsp_verdict.proofs.Offences.Offending.{first_listed, nothing_listed}
 use Rattle.lsp_verdict.proofs.Offences.Surveying.{survey_agrees}
-use Rattle.lsp_trail.specs.Asking.{Numbered, numbered}
-use Rattle.lsp_trail.specs.Breaches.{breach}
 use Rattle.lsp_explain.specs.ExplainLaws.{AllAnswersVerdict, CausesAreExplained, FirstIsVerdict}
 use Rattle.lsp_explain.specs.ExplainLaws.{NotedAnswersVerdict}
 use Rattle.lsp_explain.specs.ExplainRuns.{all_end, all_run, ends_said}

@@ -4,25 +4,21 @@ use Rattle.std.specs.Prelude.{option_map, unwrap_or}
 use Rattle.std.specs.Option.{option_or}
 use Rattle.std.proofs.Common.{◌≡◌, ◌∙◌, ℕ, List, [], ◌∷◌, ◌++◌, Option, Some, None, ap, refl, subst, sym}
 use Rattle.std.proofs.lemmas.Option.{same_Some}
-use Rattle.lsp_docs.specs.Documents.{Terms}
+use Rattle.lsp_trail.specs.Common.{bad_log_of, ending, first_from, first_no, first_of, Heard}
+use Rattle.lsp_trail.specs.Common.{heard_events, Ignored, kept_before, log_terms, notes_of, offence}
+use Rattle.lsp_trail.specs.Common.{rule_of, summary, Tail, Terms}
 use Rattle.lsp_facts.specs.TwoTexts.{TwoTexts, texts_at}
 use Rattle.lsp_frame.specs.Bounds.{Bounds}
 use Rattle.lsp_frame.specs.declared.format.Format.{Format}
 use Rattle.lsp_log.specs.Log.{Record}
 use Rattle.lsp_log.specs.declared.fault.LogCode.{LogCode}
-use Rattle.lsp_replay.specs.Run.{IsTold, Tail}
-use Rattle.lsp_replay.specs.Telling.{kept_before, rule_of}
+use Rattle.lsp_replay.specs.Run.{IsTold}
 use Rattle.lsp_replay.proofs.AllHeard.{first_after, none_is}
 use Rattle.lsp_replay.proofs.Seeing.{events-push}
 use Rattle.lsp_replay.proofs.TextRuns.{CanEnd, bad_ends, is_text, same_ends, text_ends}
 use Rattle.lsp_survey.proofs.SurveySteps.{survey_told}
-use Rattle.lsp_verdict.specs.Heard.{Heard, heard_events, notes_of}
-use Rattle.lsp_verdict.specs.LookBack.{first_from, first_of}
-use Rattle.lsp_verdict.specs.Outcome.{ending, log_terms}
 use Rattle.lsp_verdict.specs.Survey as survey
 use Rattle.lsp_verdict.specs.Shown.{TextAnswer}
-use Rattle.lsp_verdict.specs.Verdict.{bad_log_of, first_no, offence, summary}
-use Rattle.lsp_verdict.specs.declared.completeness.Completeness.TheVariants.{Ignored}
 use Rattle.lsp_verdict.proofs.Offences.Offending.{all_are_kept}
 use Rattle.lsp_explain.specs.Compared.{AnswersCompared, answer_after, answer_at, answer_behind}
 use Rattle.lsp_explain.specs.Compared.{answer_of, one_of, sound_answer}

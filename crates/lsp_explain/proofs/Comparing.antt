@@ -2,24 +2,14 @@
 use Rattle.std.specs.Prelude.{option_map}
 use Rattle.std.proofs.Common.{◌≡◌, ℕ, List, Option, Some, sym, ap, subst, ◌∙◌, Bor}
 use Rattle.lsp_docs.specs.State as docs
-use Rattle.lsp_docs.specs.Documents.{Terms}
-use Rattle.lsp_docs.specs.Taken.{call_view}
-use Rattle.lsp_docs.specs.declared.tried.Tried.{Tried}
+use Rattle.lsp_trail.specs.Common.{call_at, call_view, calls, Counted, Counts, Event, Fate, HasFate}
+use Rattle.lsp_trail.specs.Common.{Heard, heard_events, Holds, IsSeen, kept_before, kept_of}
+use Rattle.lsp_trail.specs.Common.{made_in, offence, Offends, rule_of, Terms, Tried}
 use Rattle.lsp_facts.specs.TwoTexts.{TwoTexts, texts_at}
-use Rattle.lsp_replay.specs.Standing.{Holds}
-use Rattle.lsp_replay.specs.Telling.{HasFate, IsSeen, kept_before, rule_of}
-use Rattle.lsp_replay.specs.Tries.{TriesCall, made_in}
-use Rattle.lsp_replay.specs.declared.seen.Fate.{Fate}
-use Rattle.lsp_replay.specs.declared.seen.Fate.TheVariants.{Offends}
+use Rattle.lsp_replay.specs.Tries.{TriesCall}
 use Rattle.lsp_replay.specs.declared.seen.Seen.{Seen}
 use Rattle.lsp_replay.proofs.Seeing.{events-push}
 use Rattle.lsp_session.specs.State as session
-use Rattle.lsp_lined.specs.Counted.{Counted}
-use Rattle.lsp_verdict.specs.Event.{call_at, calls, Event}
-use Rattle.lsp_verdict.specs.Heard.{Heard, heard_events}
-use Rattle.lsp_verdict.specs.Offences.{kept_of}
-use Rattle.lsp_verdict.specs.Verdict.{offence}
-use Rattle.lsp_verdict.specs.declared.counts.Counts.{Counts}
 use Rattle.lsp_verdict.proofs.Offences.Steps.{kept-refused}
 use Rattle.lsp_explain.specs.Compared.{answer_after, answer_of}
 use Rattle.lsp_facts.specs.declared.two_texts.ComparedText.{ComparedText}

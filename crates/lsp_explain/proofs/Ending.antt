@@ -6,39 +6,31 @@ use Rattle.std.proofs.Common.{◌++◌, Option, Some, None, inl, inr, refl, sym,
 use Rattle.std.proofs.Common.{append-nil, subst, arith, length, length-append, ◌<◌, ◌^◌}
 use Rattle.std.proofs.lemmas.List.{length-map, map-append}
 use Rattle.std.proofs.lemmas.List.Concat.{flat_map-append}
-use Rattle.lsp_docs.specs.Documents.{Terms}
+use Rattle.lsp_trail.specs.Common.{bad_log_of, by_itself, Closes, Completeness, decoder_of, Editor}
+use Rattle.lsp_trail.specs.Common.{End, ending, Event, first_verdict, flaw_of, Heard, heard_events}
+use Rattle.lsp_trail.specs.Common.{Ignored, Judged, kept_of, LogEvents, notes_of, Numbered}
+use Rattle.lsp_trail.specs.Common.{numbered, Offence, offence_at, offence_view, offences, report}
+use Rattle.lsp_trail.specs.Common.{Rests, sent_in, Server, Summary, summary, Tail, Terms, Verdict}
+use Rattle.lsp_trail.specs.Common.{verdict_view}
 use Rattle.lsp_log.specs.Reader.{shown_by}
 use Rattle.lsp_log.specs.declared.fault.LogCode.{LogCode}
-use Rattle.lsp_replay.specs.LogEvents.{flaw_of}
-use Rattle.lsp_replay.specs.Run.{Tail}
 use Rattle.lsp_replay.specs.Streams as streams
-use Rattle.lsp_replay.specs.Streams.{decoder_of}
-use Rattle.lsp_replay.specs.Telling.{Closes, IsEnd}
-use Rattle.lsp_replay.specs.declared.log_events.End.{End}
-use Rattle.lsp_replay.specs.declared.log_events.LogEvents.{LogEvents}
+use Rattle.lsp_replay.specs.Telling.{IsEnd}
 use Rattle.lsp_session.specs.Handshake.{was_sent}
 use Rattle.lsp_session.specs.Incomplete.{incomplete, is_any_open}
 use Rattle.lsp_session.specs.Negotiation.{first_row}
 use Rattle.lsp_session.specs.Requests.{open_requests}
 use Rattle.lsp_session.specs.Sent.{is_exit}
-use Rattle.lsp_trail.specs.Asking.{Numbered, numbered}
 use Rattle.lsp_survey.specs.Reported.{count_line, verdict_lines}
 use Rattle.lsp_survey.proofs.SessionEnds.{ends_few, given_few, ends_fit}
 use Rattle.lsp_survey.specs.SessionEnds.{all_found, ends_held, ends_of}
-use Rattle.lsp_types.specs.declared.side.Side.TheVariants.{Editor, Server}
-use Rattle.lsp_verdict.specs.Event.{Event, sent_in}
-use Rattle.lsp_verdict.specs.Given.{offence_view, verdict_view}
-use Rattle.lsp_verdict.specs.Heard.{Heard, Rests, heard_events, notes_of}
-use Rattle.lsp_verdict.specs.Offences.{Offence, has_broken, kept_of, offence_at, offences}
-use Rattle.lsp_verdict.specs.Outcome.{ending, is_rest}
-use Rattle.lsp_verdict.specs.Report.{report}
-use Rattle.lsp_verdict.specs.Survey.{by_itself, ends_inside, ends_listed, first_ends}
-use Rattle.lsp_verdict.specs.Survey.{first_verdict, lacks_listed, rests_listed}
-use Rattle.lsp_verdict.specs.Verdict.{Summary, Verdict, bad_log_of, no_next, summary}
-use Rattle.lsp_verdict.specs.declared.completeness.Completeness.{Completeness}
-use Rattle.lsp_verdict.specs.declared.completeness.Completeness.TheVariants.{Ignored, Required}
+use Rattle.lsp_verdict.specs.Offences.{has_broken}
+use Rattle.lsp_verdict.specs.Outcome.{is_rest}
+use Rattle.lsp_verdict.specs.Survey.{ends_inside, ends_listed, first_ends}
+use Rattle.lsp_verdict.specs.Survey.{lacks_listed, rests_listed}
+use Rattle.lsp_verdict.specs.Verdict.{no_next}
+use Rattle.lsp_verdict.specs.declared.completeness.Completeness.TheVariants.{Required}
 use Rattle.lsp_verdict.specs.declared.offence.Offence as code_offence
-use Rattle.lsp_verdict.specs.declared.outcome.Outcome.TheVariants.{Judged}
 use Rattle.lsp_verdict.specs.declared.verdict.Verdict as code
 use Rattle.lsp_verdict.specs.declared.verdict.Who.TheVariants as who
 use Rattle.lsp_verdict.proofs.Finding.{map_one}

@@ -3,13 +3,16 @@ use Rattle.std.specs.Prelude.{map, option_map, is_some, take}
 use Rattle.std.specs.List.{flat_map}
 use Rattle.std.proofs.Common.{◌≡◌, ◌⊎◌, ℕ, false, List, [], ◌∷◌, ◌++◌, Option, Some, None}
 use Rattle.std.proofs.Common.{inl, inr, refl, sym, ap, subst, ◌∙◌, append-nil, append_assoc}
-use Rattle.lsp_docs.specs.Documents.{Terms}
+use Rattle.lsp_trail.specs.Common.{bad_log, bad_log_of, breach, by_itself, Completeness, first_no}
+use Rattle.lsp_trail.specs.Common.{first_verdict, Heard, heard_events, IsPassed, log_terms, no}
+use Rattle.lsp_trail.specs.Common.{notes_of, Offence, Outcome, report, Rests, rule_of, Summary}
+use Rattle.lsp_trail.specs.Common.{summary, Terms, Verdict, yes}
 use Rattle.lsp_facts.specs.Fact.{Fact}
 use Rattle.lsp_frame.specs.Bounds.{Bounds, IsInRange}
 use Rattle.lsp_log.specs.declared.fault.LogCode.{LogCode}
-use Rattle.lsp_replay.specs.Run.{EndsAfter, IsPassed, SaysAll, StopsIn}
+use Rattle.lsp_replay.specs.Run.{EndsAfter, SaysAll, StopsIn}
 use Rattle.lsp_replay.specs.RunLaws.{AnswersBy}
-use Rattle.lsp_replay.specs.Telling.{no_of, rule_of}
+use Rattle.lsp_replay.specs.Telling.{no_of}
 use Rattle.lsp_replay.proofs.AllHeard.{first_after, none_is}
 use Rattle.lsp_replay.proofs.PassEnds.{IsQuiet}
 use Rattle.lsp_replay.proofs.RunLaws.{answers_verdict}
@@ -18,15 +21,7 @@ use Rattle.lsp_replay.proofs.TextRuns.{no_none}
 use Rattle.lsp_survey.specs.SessionEnds.{all_verdict, ends_of}
 use Rattle.lsp_survey.proofs.SurveyRuns.{all_is_verdict}
 use Rattle.lsp_verdict.specs.Complete.{IsVerdictBy}
-use Rattle.lsp_verdict.specs.Heard.{Heard, Rests, heard_events, notes_of}
-use Rattle.lsp_verdict.specs.Offences.{Offence}
-use Rattle.lsp_verdict.specs.Outcome.{log_terms}
-use Rattle.lsp_verdict.specs.Report.{report}
-use Rattle.lsp_verdict.specs.Survey.{by_itself, first_verdict}
-use Rattle.lsp_verdict.specs.Verdict.{Summary, Verdict, bad_log, bad_log_of, first_no, no, no_at}
-use Rattle.lsp_verdict.specs.Verdict.{summary, yes}
-use Rattle.lsp_verdict.specs.declared.completeness.Completeness.{Completeness}
-use Rattle.lsp_verdict.specs.declared.outcome.Outcome.{Outcome}
+use Rattle.lsp_verdict.specs.Verdict.{no_at}
 use Rattle.lsp_verdict.proofs.LookBackLemmas.{first_of-more}
 use Rattle.lsp_verdict.proofs.Offences.Offending.{first_listed, nothing_listed}
 use Rattle.lsp_explain.specs.ExplainLaws.{BeginsWithReport, ExplanationAnswersVerdict, YesIsReport}
@@ -34,7 +29,6 @@ use Rattle.lsp_explain.specs.ExplainRuns.{SaysFirst, end_explanation, end_verdic
 use Rattle.lsp_explain.specs.ExplainRuns.{explain_run}
 use Rattle.lsp_origins.specs.Explained.{flaw_lines, said_of}
 use Rattle.lsp_notes.specs.Notes.{note_lines, notes_by, noticed_by}
-use Rattle.lsp_trail.specs.Breaches.{breach}
 
 -- ---- the events before the one where it stops
 

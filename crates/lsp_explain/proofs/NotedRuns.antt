@@ -1,16 +1,11 @@
 -- The steps of the account that explains all that is wrong and tells the notes.
 use Rattle.std.proofs.Common.{◌≡◌, ℕ, List, ◌++◌, refl, ap, ◌∙◌, append_assoc}
-use Rattle.lsp_docs.specs.Documents.{Terms}
+use Rattle.lsp_trail.specs.Common.{Closes, Completeness, Heard, IsJudged, Judged, Rests, Says, Tail}
+use Rattle.lsp_trail.specs.Common.{Terms, Verdict, verdict_view}
 use Rattle.lsp_facts.specs.Fact.{fact_lines}
-use Rattle.lsp_replay.specs.Run.{Tail, IsJudged}
-use Rattle.lsp_replay.specs.Telling.{Closes, Goes, Says}
+use Rattle.lsp_replay.specs.Telling.{Goes}
 use Rattle.lsp_replay.specs.declared.seen.Flow.{Flow}
 use Rattle.lsp_replay.specs.declared.seen.Flow.TheVariants.{GoOn, Stop}
-use Rattle.lsp_verdict.specs.Given.{verdict_view}
-use Rattle.lsp_verdict.specs.Heard.{Heard, Rests}
-use Rattle.lsp_verdict.specs.Verdict.{Verdict}
-use Rattle.lsp_verdict.specs.declared.completeness.Completeness.{Completeness}
-use Rattle.lsp_verdict.specs.declared.outcome.Outcome.TheVariants.{Judged}
 use Rattle.lsp_verdict.specs.declared.verdict.Verdict as code_verdict
 use Rattle.lsp_notes.specs.AllNotes.{end_notes, noticed_along, notes_at}
 use Rattle.lsp_explain.specs.ExplainRuns.{all_run}

@@ -1,12 +1,9 @@
 -- Without its notes, `explain --all --notes` says what `explain --all` does.
 use Rattle.std.proofs.Common.{◌≡◌, ◌⊎◌, ◌+◌, ℕ, List, [], ◌∷◌, ◌++◌, length, inl, inr}
 use Rattle.std.proofs.Common.{refl, sym, ap, ◌∙◌, append-nil, append_assoc, arith}
-use Rattle.lsp_docs.specs.Documents.{Terms}
+use Rattle.lsp_trail.specs.Common.{Completeness, Heard, IsPassed, log_terms, Rests, Terms}
 use Rattle.lsp_facts.specs.Fact.{fact_lines}
-use Rattle.lsp_replay.specs.Run.{EndsAfter, IsPassed, SaysAll, StopsIn}
-use Rattle.lsp_verdict.specs.Heard.{Heard, Rests}
-use Rattle.lsp_verdict.specs.Outcome.{log_terms}
-use Rattle.lsp_verdict.specs.declared.completeness.Completeness.{Completeness}
+use Rattle.lsp_replay.specs.Run.{EndsAfter, SaysAll, StopsIn}
 use Rattle.lsp_notes.specs.AllNotes.{AreNotes, kinds, noticed_along, notes_at}
 use Rattle.lsp_explain.specs.ExplainRuns.{all_run}
 use Rattle.lsp_explain.specs.NotedRun.{HaveNotes, NotesAreBeside, Passage, noted_of, noted_run}

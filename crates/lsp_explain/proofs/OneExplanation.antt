@@ -3,22 +3,17 @@ use Rattle.std.specs.Prelude.{filter, if◌then◌else◌, is_some, option_map}
 use Rattle.std.specs.List.{AllZip, cons_option, flat_map}
 use Rattle.std.proofs.Common.{◌≡◌, ℕ, Bool, true, false, List, [], ◌∷◌, ◌++◌, Option, Some, None, refl}
 use Rattle.std.proofs.Common.{sym, ap, subst, ◌∙◌}
-use Rattle.lsp_docs.specs.Documents.{Terms}
+use Rattle.lsp_trail.specs.Common.{Breach, breach, Completeness, events_of, Heard, heard_events}
+use Rattle.lsp_trail.specs.Common.{IsJudged, kept_of, no_by, notes_of, Outcome, Rests, rule_at}
+use Rattle.lsp_trail.specs.Common.{rule_of, summary, Tail, Terms, Verdict}
 use Rattle.lsp_facts.specs.Fact.{fact_lines, usual_of}
 use Rattle.lsp_facts.proofs.OneFacts.{one_facts}
 use Rattle.lsp_facts.proofs.SomeFacts.{some_facts}
-use Rattle.lsp_replay.specs.Run.{IsJudged, Tail}
 use Rattle.lsp_replay.specs.RunLaws.{IsSameEnd}
-use Rattle.lsp_replay.specs.Telling.{rule_of}
 use Rattle.lsp_replay.proofs.GivenVerdicts.{end_given, some_judged, some_no}
 use Rattle.lsp_replay.proofs.Outputs.{IsExact, IsTotal, has_one, judged_same}
 use Rattle.lsp_survey.specs.SessionEnds.{all_verdict, ends_of}
 use Rattle.lsp_survey.proofs.SurveyRuns.{listed_given, some_listed}
-use Rattle.lsp_verdict.specs.Heard.{Heard, Rests, heard_events, notes_of}
-use Rattle.lsp_verdict.specs.Offences.{events_of, kept_of, rule_at}
-use Rattle.lsp_verdict.specs.Verdict.{Verdict, no_by, summary}
-use Rattle.lsp_verdict.specs.declared.completeness.Completeness.{Completeness}
-use Rattle.lsp_verdict.specs.declared.outcome.Outcome.{Outcome}
 use Rattle.lsp_notes.specs.AllNotes.{end_notes, notes_at, noticed_along}
 use Rattle.lsp_explain.specs.ExplainLaws.{OneExplanation, OneExplanationOfAll, OneNotedExplanation}
 use Rattle.lsp_explain.specs.ExplainRuns.{SaysCauses, SaysFirst, all_end, all_run, cause_at}
@@ -27,7 +22,7 @@ use Rattle.lsp_explain.specs.NotedRun.{SaysMore, noted_run, noted_verdict}
 use Rattle.lsp_origins.specs.Explained.{Explained, Explains, cause_lines}
 use Rattle.lsp_origins.specs.Explained.{event_of, is_cause, flaw_at}
 use Rattle.lsp_origins.specs.Traced.{earlier_at, traced}
-use Rattle.lsp_trail.specs.Breaches.{Breach, breach, breach_at}
+use Rattle.lsp_trail.specs.Breaches.{breach_at}
 
 -- ---- an event that offends
 

@@ -3,15 +3,12 @@ use Rattle.std.specs.Prelude.{◌||◌, filter, if◌then◌else◌, option_map}
 use Rattle.std.specs.List.{cons_option}
 use Rattle.std.proofs.Common.{◌≡◌, ℕ, Bool, true, false, List, [], ◌∷◌, Option, Some, None, refl}
 use Rattle.std.proofs.Common.{ap, subst}
-use Rattle.lsp_docs.specs.Documents.{Terms}
+use Rattle.lsp_trail.specs.Common.{Breach, breach, Completeness, Heard, heard_events, notes_of}
+use Rattle.lsp_trail.specs.Common.{offence_by, Rests, rule_at, Terms}
 use Rattle.lsp_origins.specs.Explained.{Explained, is_cause}
 use Rattle.lsp_explain.specs.ExplainRuns.{SaysCauses, all_run, explain_run, has_cause, may_keep}
 use Rattle.lsp_explain.specs.NotedRun.{noted_run}
 use Rattle.lsp_replay.specs.JsonRun.{IsQuiet}
-use Rattle.lsp_verdict.specs.Heard.{Heard, Rests, heard_events, notes_of}
-use Rattle.lsp_verdict.specs.Offences.{offence_by, rule_at}
-use Rattle.lsp_verdict.specs.declared.completeness.Completeness.{Completeness}
-use Rattle.lsp_trail.specs.Breaches.{Breach, breach}
 
 -- `explain` wants memory for each event
 pub explain_quiet : (completeness : Completeness) → IsQuiet (explain_run completeness)

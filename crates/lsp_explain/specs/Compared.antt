@@ -1,22 +1,14 @@
 -- The whole texts of a verdict that says that two texts differ: the one that the messages make, and
 -- the one that was recorded.
 use Rattle.std.specs.Prelude.{◌≡◌, ℕ, List, Option, Some, None, option_map, unwrap_or}
-use Rattle.lsp_docs.specs.Documents.{Terms}
-use Rattle.lsp_docs.specs.Calls.{Text}
+use Rattle.lsp_trail.specs.Common.{bad_log_of, Event, events_of, first_of, Heard, Ignored}
+use Rattle.lsp_trail.specs.Common.{kept_before, log_terms, Offence, offence, Run, Summary, Tail}
+use Rattle.lsp_trail.specs.Common.{Terms, Text, Verdict}
 use Rattle.lsp_frame.specs.Bounds.{Bounds}
 use Rattle.lsp_facts.specs.TwoTexts.{TwoTexts, texts_at}
-use Rattle.lsp_replay.specs.Run.{Run, Tail}
-use Rattle.lsp_replay.specs.Telling.{kept_before}
 use Rattle.lsp_replay.specs.TextAnswers.{answer_run}
-use Rattle.lsp_verdict.specs.Event.{Event}
-use Rattle.lsp_verdict.specs.Heard.{Heard}
-use Rattle.lsp_verdict.specs.LookBack.{first_of}
-use Rattle.lsp_verdict.specs.Offences.{Offence, events_of}
-use Rattle.lsp_verdict.specs.Outcome.{log_terms}
 use Rattle.lsp_verdict.specs.Shown.{TextAnswer, text_is, no_difference, refused}
 use Rattle.lsp_verdict.specs.Survey.{IsSurvey}
-use Rattle.lsp_verdict.specs.Verdict.{Summary, Verdict, bad_log_of, offence}
-use Rattle.lsp_verdict.specs.declared.completeness.Completeness.TheVariants.{Ignored}
 use Rattle.lsp_facts.specs.declared.two_texts.ComparedText.{ComparedText}
 use Rattle.lsp_facts.specs.declared.two_texts.ComparedText.TheVariants.{ByMessages, InEditor}
 

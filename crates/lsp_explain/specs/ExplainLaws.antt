@@ -1,21 +1,15 @@
 -- Laws of the runs that explain a log, or write one of two texts that differ.
 use Rattle.std.specs.Prelude.{◌≡◌, List, [], ◌∷◌, ◌++◌, map, ℕ, Option, false}
 use Rattle.std.specs.List.{flat_map}
-use Rattle.lsp_docs.specs.Documents.{Terms}
+use Rattle.lsp_trail.specs.Common.{Breach, Completeness, Heard, heard_events, IsPassed, Offence}
+use Rattle.lsp_trail.specs.Common.{Outcome, report, Rests, Summary, Terms, Verdict, yes}
 use Rattle.lsp_frame.specs.Bounds.{Bounds, IsInRange}
 use Rattle.lsp_facts.specs.Fact.{Fact}
 use Rattle.lsp_log.specs.declared.fault.LogCode.{LogCode}
-use Rattle.lsp_replay.specs.Run.{IsPassed}
 use Rattle.lsp_replay.specs.RunLaws.{AnswersVerdict, HasOneOutput, IsAllSaid, WritesAtItsEnd}
 use Rattle.lsp_verdict.specs.Complete.{IsVerdictBy}
-use Rattle.lsp_verdict.specs.Heard.{Heard, Rests, heard_events}
-use Rattle.lsp_verdict.specs.Offences.{Offence}
-use Rattle.lsp_verdict.specs.Report.{report}
 use Rattle.lsp_verdict.specs.Shown.{IsText}
 use Rattle.lsp_verdict.specs.Survey.{IsSurvey, shown_of}
-use Rattle.lsp_verdict.specs.Verdict.{Summary, Verdict, yes}
-use Rattle.lsp_verdict.specs.declared.completeness.Completeness.{Completeness}
-use Rattle.lsp_verdict.specs.declared.outcome.Outcome.{Outcome}
 use Rattle.lsp_explain.specs.Compared.{AnswersCompared, compared_run}
 use Rattle.lsp_explain.specs.ExplainRuns.{all_run, end_explanation, end_verdict, explain_run}
 use Rattle.lsp_explain.specs.ExplainRuns.{first_lines}
@@ -23,7 +17,6 @@ use Rattle.lsp_origins.specs.Explained.{Explained, all_closing, cause_lines}
 use Rattle.lsp_notes.specs.Notes.{note_lines, notes_by, noticed_by}
 use Rattle.lsp_facts.specs.declared.two_texts.ComparedText.{ComparedText}
 use Rattle.lsp_explain.specs.NotedRun.{noted_run}
-use Rattle.lsp_trail.specs.Breaches.{Breach}
 
 -- ---- each log has one output
 

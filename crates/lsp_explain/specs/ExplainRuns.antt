@@ -2,28 +2,22 @@
 use Rattle.std.specs.Prelude.{◌≡◌, ◌||◌, ℕ, List, [], ◌∷◌, ◌++◌, map, take, filter, Bool, false}
 use Rattle.std.specs.Prelude.{true, not, is_some, Option, Some, None}
 use Rattle.std.specs.List.{AllZip, cons_option, flat_map}
-use Rattle.lsp_docs.specs.Documents.{Terms}
+use Rattle.lsp_trail.specs.Common.{bad_log_of, Breach, broken, by_itself, Completeness, content}
+use Rattle.lsp_trail.specs.Common.{first_no, first_verdict, Heard, heard_events, IsJudged, IsTrail}
+use Rattle.lsp_trail.specs.Common.{notes_of, numbered, Offence, offence_at, offences, Raw, Rests}
+use Rattle.lsp_trail.specs.Common.{rule_of, Run, show, summary, Terms, Verdict}
 use Rattle.lsp_log.specs.declared.fault.LogCode.{LogCode}
-use Rattle.lsp_replay.specs.Run.{IsJudged, Run}
-use Rattle.lsp_replay.specs.Telling.{no_of, rule_of}
+use Rattle.lsp_replay.specs.Telling.{no_of}
 use Rattle.lsp_survey.specs.SessionEnds.{all_found, all_verdict, ends_of}
 use Rattle.lsp_survey.specs.Lost.{AreLosses}
 use Rattle.lsp_survey.specs.Reported.{IsTally}
-use Rattle.lsp_verdict.specs.Heard.{Heard, Rests, heard_events, notes_of}
-use Rattle.lsp_verdict.specs.Survey.{by_itself, first_verdict}
-use Rattle.lsp_verdict.specs.Verdict.{Verdict, bad_log_of, summary, first_no}
-use Rattle.lsp_verdict.specs.declared.completeness.Completeness.{Completeness}
-use Rattle.lsp_verdict.specs.Offences.{Offence, offence_at, offences}
-use Rattle.lsp_verdict.specs.Placed.{Raw, broken, content, show}
 use Rattle.lsp_facts.specs.Fact.{Fact}
-use Rattle.lsp_trail.specs.Asking.{numbered}
 use Rattle.lsp_origins.specs.Explained.{all_closing, cause_lines, is_cause, Explained}
 use Rattle.lsp_origins.specs.Explained.{Explains, end_explained, explanation, flaw_at}
 use Rattle.lsp_notes.specs.MessageNotes.{AreNoted}
 use Rattle.lsp_notes.specs.Misfits.{AreMisfits, found_kept}
 use Rattle.lsp_notes.specs.Notes.{note_lines, notes_by, noticed_by}
-use Rattle.lsp_trail.specs.Trails.{IsTrail}
-use Rattle.lsp_trail.specs.Breaches.{Breach, breach_at}
+use Rattle.lsp_trail.specs.Breaches.{breach_at}
 use Rattle.lsp_explain.specs.declared.run.FirstOffence.{FirstOffence}
 use Rattle.lsp_explain.specs.declared.run_all.AllCauses.{AllCauses}
 

@@ -1,15 +1,11 @@
 -- What `explain --all --notes` says: of each event what `explain --all` says, and the notes that
 -- are found at it.
 use Rattle.std.specs.Prelude.{◌≡◌, ℕ, List, [], ◌∷◌, ◌++◌, length, true, false, ◌+◌}
-use Rattle.lsp_docs.specs.Documents.{Terms}
+use Rattle.lsp_trail.specs.Common.{Completeness, Heard, IsPassed, Outcome, Run, Tail, Terms}
+use Rattle.lsp_trail.specs.Common.{Verdict}
 use Rattle.lsp_facts.specs.Fact.{Fact, fact_lines}
 use Rattle.lsp_frame.specs.Bounds.{Bounds}
-use Rattle.lsp_replay.specs.Run.{IsPassed, Run, Tail}
 use Rattle.lsp_survey.specs.SessionEnds.{all_verdict, ends_of}
-use Rattle.lsp_verdict.specs.Heard.{Heard}
-use Rattle.lsp_verdict.specs.Verdict.{Verdict}
-use Rattle.lsp_verdict.specs.declared.completeness.Completeness.{Completeness}
-use Rattle.lsp_verdict.specs.declared.outcome.Outcome.{Outcome}
 use Rattle.lsp_explain.specs.ExplainRuns.{AllStands, all_run}
 use Rattle.lsp_notes.specs.Notes.{count_line}
 use Rattle.lsp_explain.specs.declared.run_noted.NotedCauses.{NotedCauses}

@@ -1,12 +1,9 @@
 //! The whole texts of a verdict that says that two texts differ.
 ghost use Rattle.std.specs.Prelude.{◌≡◌, None, IfOk, option_map};
 ghost use Rattle.lsp_facts.specs.TwoTexts.{seen_texts};
-ghost use Rattle.lsp_replay.specs.LogEvents.{flaw_of};
-ghost use Rattle.lsp_replay.specs.Run.{PassesOn};
+ghost use Rattle.lsp_trail.specs.Common.{bad_log_of, first_no, flaw_of, heard_events, PassesOn};
+ghost use Rattle.lsp_trail.specs.Common.{ports};
 ghost use Rattle.lsp_replay.specs.TextAnswers.{answer_view};
-ghost use Rattle.lsp_verdict.specs.Heard.{heard_events};
-ghost use Rattle.lsp_verdict.specs.Runs.{ports};
-ghost use Rattle.lsp_verdict.specs.Verdict.{bad_log_of, first_no};
 ghost use Rattle.lsp_explain.specs.Compared as spec;
 ghost use Rattle.lsp_explain.specs.Compared.{ComparedAsked, compared_run, sound_answer};
 

@@ -1,22 +1,13 @@
 //! Explains the verdict on a log.
 ghost use Rattle.std.specs.Prelude.{◌≡◌, ◌++◌, ◌∷◌, ◌<◌, ◌^◌, [], List, None, IfOk, length, map};
 ghost use Rattle.std.specs.Prelude.{string_bytes, take};
-ghost use Rattle.lsp_docs.specs.Documents.{Terms};
-ghost use Rattle.lsp_replay.specs.JsonRun.{run_in};
-ghost use Rattle.lsp_replay.specs.LogEvents.{flaw_of};
-ghost use Rattle.lsp_replay.specs.Run.{PassesOn};
-ghost use Rattle.lsp_replay.specs.Telling.{IsSeen, Says, ShowsFault, Stood};
-ghost use Rattle.lsp_replay.specs.declared.seen.Fate.TheVariants.{Offends};
+ghost use Rattle.lsp_trail.specs.Common.{bad_log_of, by_itself, Completeness, first_no, flaw_of};
+ghost use Rattle.lsp_trail.specs.Common.{Heard, heard_events, IsSeen, IsTrail, Offends, PassesOn};
+ghost use Rattle.lsp_trail.specs.Common.{ports, run_in, Says, ShowsFault, Stood, summary, Terms};
+ghost use Rattle.lsp_trail.specs.Common.{verdict_view};
 ghost use Rattle.lsp_survey.specs.SessionEnds.{ends_held};
-ghost use Rattle.lsp_verdict.specs.Given.{verdict_view};
-ghost use Rattle.lsp_verdict.specs.Heard.{Heard, heard_events};
-ghost use Rattle.lsp_verdict.specs.Runs.{ports};
-ghost use Rattle.lsp_verdict.specs.Survey.{by_itself};
-ghost use Rattle.lsp_verdict.specs.Verdict.{bad_log_of, first_no, summary};
-ghost use Rattle.lsp_verdict.specs.declared.completeness.Completeness.{Completeness};
 ghost use Rattle.lsp_explain.specs.ExplainRuns.{FirstStands, end_verdict, ends_said, explain_run};
 ghost use Rattle.lsp_origins.specs.Explained.{explanation, flaw_held, rests_held};
-ghost use Rattle.lsp_trail.specs.Trails.{IsTrail};
 
 use lsp_docs::Tried;
 use lsp_frame::{Limits, Sink, Source};

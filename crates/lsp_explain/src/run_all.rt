@@ -2,22 +2,14 @@
 ghost use Rattle.std.specs.Prelude.{◌≡◌, ◌++◌, ◌<◌, ◌^◌, [], List, IfOk, OnOk, length, map};
 ghost use Rattle.std.specs.Prelude.{string_bytes};
 ghost use Rattle.std.specs.List.{flat_map};
-ghost use Rattle.lsp_docs.specs.Documents.{Terms};
-ghost use Rattle.lsp_replay.specs.JsonRun.{run_in};
-ghost use Rattle.lsp_replay.specs.Run.{PassesOn};
-ghost use Rattle.lsp_replay.specs.Telling.{Closes, IsEnd, Stood};
+ghost use Rattle.lsp_trail.specs.Common.{Closes, Completeness, Event, Heard, Judged, numbered};
+ghost use Rattle.lsp_trail.specs.Common.{offence_view, PassesOn, ports, run_in, StandsAfter, Stood};
+ghost use Rattle.lsp_trail.specs.Common.{Terms, terms_in};
+ghost use Rattle.lsp_replay.specs.Telling.{IsEnd};
 ghost use Rattle.lsp_survey.specs.Reported.{IsTally};
-ghost use Rattle.lsp_verdict.specs.Event.{Event};
-ghost use Rattle.lsp_verdict.specs.Given.{offence_view};
-ghost use Rattle.lsp_verdict.specs.Heard.{Heard};
 ghost use Rattle.lsp_verdict.specs.Offences.{Offence as SpecOffence};
-ghost use Rattle.lsp_verdict.specs.Runs.{ports};
-ghost use Rattle.lsp_verdict.specs.declared.completeness.Completeness.{Completeness};
-ghost use Rattle.lsp_verdict.specs.declared.outcome.Outcome.TheVariants.{Judged};
-ghost use Rattle.lsp_trail.specs.Asking.{numbered};
 ghost use Rattle.lsp_explain.specs.ExplainRuns.{AllStands, all_run};
 ghost use Rattle.lsp_origins.specs.Explained.{cause_lines, end_explained, rests_held};
-ghost use Rattle.lsp_trail.specs.Trails.{StandsAfter, terms_in};
 
 use lsp_frame::{Limits, Sink, Source};
 use lsp_lined::Lined;

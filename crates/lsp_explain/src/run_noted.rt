@@ -1,10 +1,6 @@
 //! Explains all that is wrong with a log, with the notes on what breaks no rule.
 ghost use Rattle.std.specs.Prelude.{◌≡◌, []};
-ghost use Rattle.lsp_docs.specs.Documents.{Terms};
-ghost use Rattle.lsp_replay.specs.JsonRun.{run_in};
-ghost use Rattle.lsp_replay.specs.Run.{PassesOn};
-ghost use Rattle.lsp_verdict.specs.Runs.{ports};
-ghost use Rattle.lsp_verdict.specs.declared.completeness.Completeness.{Completeness};
+ghost use Rattle.lsp_trail.specs.Common.{Completeness, PassesOn, ports, run_in, Terms};
 ghost use Rattle.lsp_explain.specs.NotedRun.{NotedStands, noted_run};
 
 use crate::run_all::AllCauses;

@@ -1,9 +1,8 @@
 -- How a run ends that has something due for its input.
 use Rattle.std.proofs.Common.{◌≡◌, List, ℕ, Ok, Err}
 use Rattle.std.specs.Io.KnownBytes.{IsAtEnd}
-use Rattle.lsp_frame.specs.Bounds.{Bounds}
-use Rattle.lsp_verdict.specs.Runs.{OutputFor, Ports, failures_after, sink_failures_after}
-use Rattle.lsp_verdict.specs.declared.outcome.RunFault.{RunFault}
+use Rattle.lsp_replay.specs.Common.{Bounds, failures_after, Ports, RunFault, sink_failures_after}
+use Rattle.lsp_verdict.specs.Runs.{OutputFor}
 use Rattle.lsp_verdict.proofs.RunsJudged.{read_within}
 use Rattle.lsp_extract.specs.Written.{WritesDue}
 

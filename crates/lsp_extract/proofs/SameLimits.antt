@@ -1,7 +1,6 @@
 -- Frames and streams under limits that are the same.
 use Rattle.std.proofs.Common.{◌≡◌, ℕ, List, Option, subst}
-use Rattle.lsp_frame.specs.Bounds.{Bounds}
-use Rattle.lsp_frame.specs.Frame.{Frames, IsStream}
+use Rattle.lsp_replay.specs.Common.{Bounds, Frames, IsStream}
 
 pub frames_at : (l m : Bounds) (bytes : List ℕ) (contents : List (List ℕ)) (rest : List ℕ) → l ≡ m
     → Frames l bytes contents rest → Frames m bytes contents rest

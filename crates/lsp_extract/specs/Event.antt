@@ -1,17 +1,13 @@
 -- The content of one event of a log.
 use Rattle.std.specs.Prelude.{◌≡◌, ℕ, ◌-◌, List, [], ◌++◌, Option, Some, None, slice_get, Result}
 use Rattle.std.specs.Prelude.{Err, ◌+◌, length}
-use Rattle.lsp_frame.specs.Bounds.{Bounds, IsInRange}
-use Rattle.lsp_frame.specs.declared.format.Format.{Format}
-use Rattle.lsp_frame.specs.Told.{Told}
-use Rattle.lsp_log.specs.declared.fault.LogCode.{LogCode}
-use Rattle.lsp_log.specs.Log.{Record, IsLog}
-use Rattle.lsp_verdict.specs.Placed.{Raw, content, broken, show, Placed, Reads}
-use Rattle.lsp_verdict.specs.Runs.{IsSilent, Ports}
-use Rattle.lsp_verdict.specs.declared.outcome.RunFault.{RunFault}
+use Rattle.lsp_replay.specs.Common.{Bounds, broken, content, Format, IsInRange, IsLog, IsVerdict}
+use Rattle.lsp_replay.specs.Common.{LogCode, Placed, Ports, Reads, RunFault, show, Told}
+use Rattle.lsp_log.specs.Log.{Record}
+use Rattle.lsp_verdict.specs.Placed.{Raw}
+use Rattle.lsp_verdict.specs.Runs.{IsSilent}
 use Rattle.lsp_verdict.specs.declared.outcome.RunFault.TheVariants as faults
 use Rattle.lsp_verdict.specs.Event as verdict
-use Rattle.lsp_verdict.specs.Outcome.{IsVerdict}
 use Rattle.lsp_verdict.specs.Verdict.{Verdict}
 use Rattle.lsp_replay.specs.LogEvents as log_events
 use Rattle.lsp_replay.specs.declared.log_events.LogEvents.{LogEvents}

@@ -7,28 +7,21 @@ use Rattle.std.specs.Int.{div_ceil}
 use Rattle.std.specs.List.{flat_map}
 use Rattle.std.specs.Option.{option_or}
 use Rattle.std.specs.Simd.{first_chunks}
-use Rattle.lsp_frame.specs.Bounds.{Bounds, IsInRange}
-use Rattle.lsp_frame.specs.Sink.{canonical, Wrote}
-use Rattle.lsp_frame.specs.declared.format.Format.{Format}
-use Rattle.lsp_frame.specs.Told.{Told}
-use Rattle.lsp_types.specs.declared.side.Side.{Side}
+use Rattle.lsp_replay.specs.Common.{AreCounts, as_given, bad_log, bad_log_of, Bounds, broken}
+use Rattle.lsp_replay.specs.Common.{canonical, chunk, content, Counts, Ending, ending, Event}
+use Rattle.lsp_replay.specs.Common.{first_line, first_of, Format, format_or_one, HasRest, IsInRange}
+use Rattle.lsp_replay.specs.Common.{IsLog, IsVerdict, joined, LogCode, no, Placed, Ports, RunFault}
+use Rattle.lsp_replay.specs.Common.{same_side, show, shown, Side, spelling, Tells, Told}
+use Rattle.lsp_replay.specs.Common.{verdict_view, who_of, yes}
+use Rattle.lsp_frame.specs.Sink.{Wrote}
 use Rattle.lsp_types.specs.declared.side.Side.TheVariants.{Editor, Server}
 use Rattle.lsp_types.specs.declared.rules.TheConstants as rules
-use Rattle.lsp_session.specs.Sent.{same_side}
-use Rattle.lsp_log.specs.declared.fault.LogCode.{LogCode}
-use Rattle.lsp_log.specs.Log.{Record, chunk, shown, first_line, spelling, IsLog}
+use Rattle.lsp_log.specs.Log.{Record}
 use Rattle.lsp_verdict.specs.declared.outcome.Outcome.{Outcome}
 use Rattle.lsp_verdict.specs.declared.outcome.Outcome.TheVariants.{Done, Judged}
-use Rattle.lsp_verdict.specs.declared.outcome.RunFault.{RunFault}
-use Rattle.lsp_verdict.specs.Given.{verdict_view, as_given, AreCounts}
-use Rattle.lsp_verdict.specs.LookBack.{first_of}
-use Rattle.lsp_verdict.specs.Outcome.{HasRest, ending, format_or_one, IsVerdict}
-use Rattle.lsp_verdict.specs.Placed.{Raw, content, broken, show, Placed, joined}
-use Rattle.lsp_verdict.specs.Runs.{Ports, Tells}
-use Rattle.lsp_verdict.specs.Verdict.{Verdict, no, Ending, who_of, bad_log_of, yes, bad_log}
+use Rattle.lsp_verdict.specs.Placed.{Raw}
+use Rattle.lsp_verdict.specs.Verdict.{Verdict}
 use Rattle.lsp_verdict.specs.Event as event
-use Rattle.lsp_verdict.specs.Event.{Event}
-use Rattle.lsp_verdict.specs.declared.counts.Counts.{Counts}
 use Rattle.lsp_verdict.specs.declared.verdict.Verdict.TheVariants as verdicts
 use Rattle.lsp_replay.specs.declared.log_events.End.{End}
 use Rattle.lsp_replay.specs.declared.log_events.End.TheVariants.{Sound, Bad}

@@ -1,25 +1,17 @@
 -- What a run over one raw stream writes, frame by frame, and how it ends.
 use Rattle.std.specs.Prelude.{◌≡◌, ◌⊎◌, ℕ, ◌+◌, List, [], ◌∷◌, ◌++◌, length, Option, Some, None}
 use Rattle.std.specs.Prelude.{codes, decimal, take, Bool, true, false, nat_lt, Result, ◌≤◌, Ok, Err}
-use Rattle.lsp_frame.specs.Sink.{canonical, Wrote, Stopped}
-use Rattle.lsp_frame.specs.Bounds.{Bounds}
-use Rattle.lsp_frame.specs.Frame.{IsStream, Frames}
-use Rattle.lsp_frame.specs.Told.{Told, Gave, Took}
-use Rattle.lsp_frame.specs.Pulling.{Misses}
+use Rattle.lsp_frame.specs.Sink.{Wrote}
+use Rattle.lsp_replay.specs.Common.{Bounds, BreaksRule, Canonical, canonical, Frames, Gave}
+use Rattle.lsp_replay.specs.Common.{IsStream, Kinds, Lengths, Message, Misses, Mode, OfRead, Ports}
+use Rattle.lsp_replay.specs.Common.{ports, Rule, RunFault, sink_failures_after, StandsFor, State}
+use Rattle.lsp_replay.specs.Common.{Stopped, Stream, StreamFault, Told, Took, TooLong, words_of}
 use Rattle.lsp_frame.specs.declared.decoder.Missing.{Missing}
-use Rattle.lsp_frame.specs.Decoder.{State, StandsFor, EndsWith}
-use Rattle.lsp_rpc.specs.Message.{Message}
-use Rattle.lsp_rpc.specs.Reading.{Reads, BreaksRule}
-use Rattle.lsp_rpc.specs.Words.{words_of}
-use Rattle.lsp_verdict.specs.declared.outcome.Mode.{Mode}
-use Rattle.lsp_verdict.specs.declared.outcome.Mode.TheVariants.{Lengths, Canonical, Kinds}
+use Rattle.lsp_frame.specs.Decoder.{EndsWith}
+use Rattle.lsp_rpc.specs.Reading.{Reads}
 use Rattle.lsp_verdict.specs.declared.outcome.Outcome.{Outcome}
-use Rattle.lsp_verdict.specs.declared.outcome.Outcome.TheVariants.{Done, Stream}
-use Rattle.lsp_verdict.specs.declared.outcome.StreamFault.{StreamFault}
-use Rattle.lsp_verdict.specs.declared.outcome.StreamFault.TheVariants.{Rule, TooLong}
-use Rattle.lsp_verdict.specs.Runs.{Ports, ports, OfRead, sink_failures_after}
+use Rattle.lsp_verdict.specs.declared.outcome.Outcome.TheVariants.{Done}
 use Rattle.lsp_verdict.specs.Report.{stream_report}
-use Rattle.lsp_verdict.specs.declared.outcome.RunFault.{RunFault}
 use Rattle.lsp_verdict.specs.declared.outcome.RunFault.TheVariants as faults
 use Rattle.lsp_types.specs.declared.rules.TheConstants as rules
 use Rattle.lsp_extract.specs.Written.{WritesDue}

@@ -1,9 +1,8 @@
 -- What a run writes that has something due for its input, whatever the outcome is.
 use Rattle.std.specs.Prelude.{◌≡◌, List, ℕ, Result, Ok, IfOk, OnErr}
 use Rattle.std.specs.Io.KnownBytes.{IsAtEnd}
-use Rattle.lsp_frame.specs.Bounds.{Bounds}
-use Rattle.lsp_verdict.specs.Runs.{CountsFaults, OutputFor, Ports}
-use Rattle.lsp_verdict.specs.declared.outcome.RunFault.{RunFault}
+use Rattle.lsp_replay.specs.Common.{Bounds, Ports, RunFault}
+use Rattle.lsp_verdict.specs.Runs.{CountsFaults, OutputFor}
 
 -- **What is due for the input is written, and the outcome is the one that is due with it**: what is
 -- due, what begins that, and the outcome that is known only at the end of the input

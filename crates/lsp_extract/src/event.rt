@@ -1,10 +1,8 @@
 //! The content of one event of a log.
 ghost use Rattle.std.specs.Prelude.{◌≡◌, ◌<◌, ℕ};
-ghost use Rattle.lsp_frame.specs.Bounds.{Bounds};
-ghost use Rattle.lsp_frame.specs.Told.{Told};
+ghost use Rattle.lsp_replay.specs.Common.{Bounds, ports, Told};
 ghost use Rattle.lsp_extract.specs.Event.{GivesEvent, content_of, outcome_of, without, HasPassed};
 ghost use Rattle.lsp_replay.specs.LogEvents.{flaw_of};
-ghost use Rattle.lsp_verdict.specs.Runs.{ports};
 ghost use Rattle.lsp_verdict.specs.Given.{raw_view};
 
 use lsp_frame::{Limits, Sink, Source, put_all};

@@ -2,16 +2,11 @@
 //! between an editor and a server.
 ghost use Rattle.std.specs.Prelude.{◌≡◌, ◌≤◌, ◌<◌, ◌+◌, ◌^◌, ◌∷◌, ◌++◌, [], ℕ, List, length, drop};
 ghost use Rattle.std.specs.Prelude.{decimal, None, false, IfSome};
-ghost use Rattle.lsp_frame.specs.Bounds.{Bounds, IsInRange};
-ghost use Rattle.lsp_frame.specs.Decoder.{StandsFor};
-ghost use Rattle.lsp_frame.specs.Sink.{Writes};
-ghost use Rattle.lsp_frame.specs.Told.{Told};
-ghost use Rattle.lsp_frame.specs.Pulling.{Misses};
+ghost use Rattle.lsp_replay.specs.Common.{Bounds, IsInRange, Lengths, Misses, ports, StandsFor};
+ghost use Rattle.lsp_replay.specs.Common.{Tells, Told, Writes};
 ghost use Rattle.lsp_extract.specs.Stream.{numbers, kind_line, outcome_at, RunsFrames, fault_of};
 ghost use Rattle.lsp_extract.specs.Stream.{closing, WritesPart, AreParts, Finds, PartsAnswer};
 ghost use Rattle.lsp_extract.specs.Stream.{ToldAll, IsLong, LongAnswer};
-ghost use Rattle.lsp_verdict.specs.Runs.{ports, Tells};
-ghost use Rattle.lsp_verdict.specs.declared.outcome.Mode.TheVariants.{Lengths};
 
 use itoa::write_digits;
 use lsp_frame::{Decoder, Limits, Missing, Sink, Source, WriteFault, put_all, write_frame};

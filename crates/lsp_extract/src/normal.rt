@@ -1,13 +1,10 @@
 //! The normal form of a log: each message as its canonical frame, in full records.
 ghost use Rattle.std.specs.Prelude.{◌≡◌, ◌<◌, [], List, Some, None};
-ghost use Rattle.lsp_frame.specs.Bounds.{Bounds};
-ghost use Rattle.lsp_frame.specs.Told.{Told};
+ghost use Rattle.lsp_replay.specs.Common.{Bounds, Opens, ports, Told};
 ghost use Rattle.lsp_log.specs.Log as log;
-ghost use Rattle.lsp_replay.specs.LogEvents.{Opens};
 ghost use Rattle.lsp_extract.specs.Normal as normal;
 ghost use Rattle.lsp_extract.specs.Normal.{Normalizes, first_broken, Counted, CarriesCapped, EndsLog};
 ghost use Rattle.lsp_extract.specs.Normal.{WritesEvent, WroteHead};
-ghost use Rattle.lsp_verdict.specs.Runs.{ports};
 ghost use Rattle.lsp_replay.specs.Streams.{Stands};
 ghost use Rattle.lsp_verdict.specs.Given.{raw_view};
 ghost use Rattle.lsp_verdict.specs.Placed.{Raw as PlacedRaw};

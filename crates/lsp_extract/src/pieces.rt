@@ -2,10 +2,8 @@
 ghost use Rattle.std.specs.Prelude.{◌≡◌, ◌<◌, ◌++◌, OnOk, codes, decimal, string_bytes};
 ghost use Rattle.std.specs.List.{flat_map};
 ghost use Rattle.lsp_frame.specs.Header.{blank_line};
-ghost use Rattle.lsp_frame.specs.Sink.{canonical, Writes};
-ghost use Rattle.lsp_log.specs.Log.{spelling};
+ghost use Rattle.lsp_replay.specs.Common.{canonical, spelling, Tells, Writes};
 ghost use Rattle.lsp_extract.specs.Normal.{chunks};
-ghost use Rattle.lsp_verdict.specs.Runs.{Tells};
 
 use itoa::Buffer;
 use lsp_frame::{Sink, WriteFault};

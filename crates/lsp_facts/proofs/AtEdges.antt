@@ -2,9 +2,7 @@
 use Rattle.std.specs.Prelude.{is_some, is_none, MatchOption, not}
 use Rattle.std.proofs.Common.{◌≡◌, ℕ, Bool, true, false, Option, Some, None, refl, sym, ap, ◌∙◌}
 use Rattle.std.proofs.Common.{true≢false}
-use Rattle.lsp_types.specs.declared.position.Encoding.{Encoding}
-use Rattle.lsp_types.specs.declared.position.Position.{Position}
-use Rattle.lsp_text.specs.InsideCharacter.{LiesInside}
+use Rattle.lsp_replay.specs.Common.{Encoding, LiesInside, Position}
 use Rattle.lsp_text.specs.Places.{place_of}
 use Rattle.lsp_text.proofs.Differing.InsideCharacter.{positions_lie_inside}
 use Rattle.lsp_docs.specs.Calls.{Text}

@@ -4,15 +4,13 @@ use Rattle.std.specs.Option.{option_or}
 use Rattle.std.proofs.Common.{◌≡◌, ◌≤◌, ◌∙◌, ℕ, List, Option, Some, None, ap, arith, refl, sym, true}
 use Rattle.std.proofs.lemmas.Bool.Decides.{nat_tests}
 use Rattle.std.proofs.lemmas.Option.{same_Some}
-use Rattle.lsp_docs.specs.Calls.{Call}
-use Rattle.lsp_docs.specs.Documents.{Terms}
-use Rattle.lsp_docs.specs.Rules.{call_rule}
+use Rattle.lsp_replay.specs.Common.{Call, call_at, call_rule, calls, Event, message, offence, Sent}
+use Rattle.lsp_replay.specs.Common.{sent_in, snapshot, Terms}
 use Rattle.lsp_facts.specs.TwoTexts.{is_of_texts}
 use Rattle.lsp_session.specs.Rules.{rule_after}
-use Rattle.lsp_session.specs.Sent.{Sent}
 use Rattle.lsp_session.proofs.LeastRuleLemmas.{rules_end}
-use Rattle.lsp_verdict.specs.Event.{Event, call_at, calls, fault, message, sent_in, snapshot}
-use Rattle.lsp_verdict.specs.Verdict.{document_rule, offence}
+use Rattle.lsp_verdict.specs.Event.{fault}
+use Rattle.lsp_verdict.specs.Verdict.{document_rule}
 
 pub is_on_documents : (rule : ℕ) → is_of_texts rule ≡ true → 601 ≤ rule
 is_on_documents rule is = grind (arith, nat_tests)

@@ -13,25 +13,22 @@ use Rattle.std.proofs.lemmas.Slice.Eq.{bytes_eq-Decides}
 use Rattle.std.proofs.lemmas.List.Folds.{list_any-append}
 use Rattle.std.proofs.lemmas.Bool.{cases_Bool, and_parts}
 use Rattle.std.proofs.Math.Bool.{or-false}
-use Rattle.lsp_types.specs.declared.change.SyncKind.{SyncKind}
-use Rattle.lsp_types.specs.declared.position.Encoding.{Encoding}
-use Rattle.lsp_types.specs.declared.line_ends.LineEnds.{LineEnds}
-use Rattle.lsp_docs.specs.Calls.{Call, changes, shows, Text}
-use Rattle.lsp_docs.specs.Rules.{call_rule, differs, text_rule, fits_kind, change_rule, show_rule}
-use Rattle.lsp_docs.specs.Rules.{differs_from, other_than, text_at}
-use Rattle.lsp_docs.specs.Documents.{Terms, Version, held, versioned, is_after}
-use Rattle.lsp_docs.specs.Tried.{Made, AreTriedOn, IsMade, IsRejected}
+use Rattle.lsp_replay.specs.Common.{applied, AreTriedOn, Call, call_at, call_rule, calls}
+use Rattle.lsp_replay.specs.Common.{change_rule, changed, changes, compared, differs, Edit}
+use Rattle.lsp_replay.specs.Common.{Encoding, Event, held, is_after, IsMade, LineEnds, message}
+use Rattle.lsp_replay.specs.Common.{offence, other_than, same_text, SameText, Sent, sent_in, shows}
+use Rattle.lsp_replay.specs.Common.{SyncKind, Terms, text_rule, Version, versioned}
+use Rattle.lsp_docs.specs.Calls.{Text}
+use Rattle.lsp_docs.specs.Rules.{fits_kind, show_rule}
+use Rattle.lsp_docs.specs.Rules.{differs_from, text_at}
+use Rattle.lsp_docs.specs.Tried.{Made, IsRejected}
 use Rattle.lsp_docs.specs.Snapshots.{kept, texts_at}
 use Rattle.lsp_docs.specs.State as docs
 use Rattle.lsp_docs.proofs.SameVersions.{differs-texts}
 use Rattle.lsp_docs.proofs.Others.{held-at}
 use Rattle.lsp_session.proofs.LeastRuleLemmas.{rules_end}
 use Rattle.lsp_session.specs.Rules.{rule_after}
-use Rattle.lsp_session.specs.Sent.{Sent}
-use Rattle.lsp_verdict.specs.Event.{call_at, calls, Event, message, sent_in}
-use Rattle.lsp_verdict.specs.Verdict.{document_rule, offence}
-use Rattle.lsp_text.specs.Edits.{Edit, changed, applied}
-use Rattle.lsp_text.specs.SameText.{SameText, compared, same_text}
+use Rattle.lsp_verdict.specs.Verdict.{document_rule}
 use Rattle.lsp_facts.specs.DocumentFacts.{AreOfChange, AreOfRule, IsRefused}
 use Rattle.lsp_facts.specs.Fact.{Fact}
 use Rattle.lsp_facts.specs.Refuting.{first_other, is_other}

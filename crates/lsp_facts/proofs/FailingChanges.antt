@@ -3,12 +3,9 @@ use Rattle.std.proofs.Common.{◌≡◌, ℕ, List, ◌∷◌, refl, sym, ap, �
 use Rattle.std.proofs.Common.{Some, None, inl, inr, ◌+◌, ◌≤◌, suc, cond, ◌++◌, take, Result, [], Ok}
 use Rattle.std.proofs.Common.{Err, subst, arith}
 use Rattle.std.specs.Prelude.{ℤ, nat_lt, is_some, slice_get}
-use Rattle.lsp_types.specs.declared.position.Encoding.{Encoding}
-use Rattle.lsp_types.specs.declared.position.Encoding.TheVariants.{Utf8}
-use Rattle.lsp_types.specs.declared.position.Span.{Span}
-use Rattle.lsp_text.specs.Edits.{Edit, splice, limited, spliced, changed, and_then, applied}
-use Rattle.lsp_text.specs.InsideCharacter.{LiesInside}
-use Rattle.lsp_text.specs.Places.{units, place_of}
+use Rattle.lsp_replay.specs.Common.{applied, changed, Edit, Encoding, LiesInside, Span, units, Utf8}
+use Rattle.lsp_text.specs.Edits.{splice, limited, spliced, and_then}
+use Rattle.lsp_text.specs.Places.{place_of}
 use Rattle.lsp_text.proofs.Differing.InsideCharacter.{positions_lie_inside}
 use Rattle.lsp_docs.specs.Calls.{Text}
 use Rattle.lsp_facts.specs.Fact.{Fact, would_have, may_have, counts_in, fails}

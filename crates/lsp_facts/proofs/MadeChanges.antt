@@ -7,21 +7,16 @@ use Rattle.std.proofs.lemmas.List.{take-map, take_all}
 use Rattle.std.proofs.lemmas.Option.{slice_get-map, slice_get-get_or}
 use Rattle.std.specs.List.{slice_get, prefix_len}
 use Rattle.std.specs.Option.{option_map}
-use Rattle.lsp_types.specs.declared.position.Encoding.{Encoding}
-use Rattle.lsp_types.specs.declared.position.Span.{Span}
-use Rattle.lsp_types.specs.declared.change.Change.{Change}
-use Rattle.lsp_types.specs.declared.change.SyncKind.{SyncKind}
+use Rattle.lsp_replay.specs.Common.{applied, AreTriedOn, Change, changed, Edit, edit_of, edits_of}
+use Rattle.lsp_replay.specs.Common.{Encoding, is_of_kind, IsMade, LiesInside, Span, SyncKind}
+use Rattle.lsp_replay.specs.Common.{Version}
 use Rattle.lsp_text.specs.Places.{place_of}
-use Rattle.lsp_text.specs.InsideCharacter.{LiesInside}
 use Rattle.lsp_text.proofs.Differing.InsideCharacter.{positions_lie_inside}
-use Rattle.lsp_text.specs.Edits.{Edit, changed, and_then, applied}
-use Rattle.lsp_text.specs.Changes.{edit_of, edits_of}
+use Rattle.lsp_text.specs.Edits.{and_then}
 use Rattle.lsp_text.proofs.Edits.Applied.{applied-append}
 use Rattle.lsp_text.proofs.Positions.{slice_get-past}
 use Rattle.lsp_docs.specs.Calls.{Text}
-use Rattle.lsp_docs.specs.Tried.{AreTried, AreTriedOn, IsMade, IsRejected, Made, made_of}
-use Rattle.lsp_docs.specs.Documents.{Version}
-use Rattle.lsp_docs.specs.Rules.{is_of_kind}
+use Rattle.lsp_docs.specs.Tried.{AreTried, IsRejected, Made, made_of}
 use Rattle.lsp_facts.specs.DocumentFacts.{stray, fitting, made_length, misfit_facts}
 use Rattle.lsp_facts.specs.Fact.{Fact, counts_in, fails}
 

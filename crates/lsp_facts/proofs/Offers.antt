@@ -5,8 +5,7 @@ use Rattle.std.specs.Global.{Global}
 use Rattle.std.specs.List.{flat_map}
 use Rattle.std.proofs.lemmas.List.{length-map, take-map}
 use Rattle.json.specs.Print.{quoted}
-use Rattle.lsp_rpc.specs.Act.{Text}
-use Rattle.lsp_rpc.specs.View.{texts_view}
+use Rattle.lsp_replay.specs.Common.{Text, texts_view}
 use Rattle.lsp_facts.specs.Fact.{Fact, more_words, spaced}
 use Rattle.lsp_facts.specs.EventFacts.{names_fitting, offer_fact, offered_bytes}
 

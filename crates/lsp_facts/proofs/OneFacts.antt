@@ -4,20 +4,15 @@ use Rattle.std.specs.Prelude.{nat_lt, slice_get, unwrap_or}
 use Rattle.std.proofs.lemmas.Bool.{cases_lt}
 use Rattle.std.proofs.lemmas.Bool.Decides.{nat_tests}
 use Rattle.std.proofs.lemmas.Option.{same_Some}
-use Rattle.lsp_types.specs.declared.change.SyncKind.{SyncKind}
-use Rattle.lsp_types.specs.declared.position.Encoding.{Encoding}
-use Rattle.lsp_types.specs.declared.position.Encoding.TheVariants.{Utf8, Utf16}
-use Rattle.lsp_types.specs.declared.position.Span.{Span}
-use Rattle.lsp_text.specs.Edits.{Edit, limited, applied}
-use Rattle.lsp_types.specs.declared.line_ends.LineEnds.{LineEnds}
-use Rattle.lsp_text.specs.InsideCharacter.{LiesInside}
-use Rattle.lsp_text.specs.SameText.{compared}
-use Rattle.lsp_text.specs.Places.{units}
+use Rattle.lsp_replay.specs.Common.{applied, Call, call_at, calls, changes, closes, compared, Edit}
+use Rattle.lsp_replay.specs.Common.{Encoding, encoding, Event, held, LiesInside, LineEnds, message}
+use Rattle.lsp_replay.specs.Common.{opens, Rests, saves, Sent, sent_in, shows, snapshot, Span}
+use Rattle.lsp_replay.specs.Common.{SyncKind, Terms, units, uri_of, Utf16, Utf8, Version}
+use Rattle.lsp_text.specs.Edits.{limited}
 use Rattle.lsp_text.specs.Sizes.{IsSizeWith}
 use Rattle.lsp_text.proofs.Differing.Differences.{one_place}
 use Rattle.lsp_text.proofs.Differing.InsideCharacter.{positions_lie_inside}
-use Rattle.lsp_docs.specs.Calls.{Call, opens, changes, closes, saves, shows, uri_of, Text}
-use Rattle.lsp_docs.specs.Documents.{Version, held, Terms}
+use Rattle.lsp_docs.specs.Calls.{Text}
 use Rattle.lsp_docs.specs.Snapshots.{kept as versions_kept}
 use Rattle.lsp_facts.specs.DocumentFacts.{falls_inside, fits_fact, head_facts, line_length}
 use Rattle.lsp_facts.specs.DocumentFacts.{first_length, stray, difference_facts, ends_facts}
@@ -26,12 +21,9 @@ use Rattle.lsp_facts.specs.DocumentFacts.{IsFailing, AreApart, AreOfDifference, 
 use Rattle.lsp_facts.specs.DocumentFacts.{AreDetails, AreDocumentFacts, AreOfRule, edges, editor_key}
 use Rattle.lsp_facts.specs.DocumentFacts.{kind_facts}
 use Rattle.lsp_facts.specs.TwoTexts.{TwoTexts, texts_of}
-use Rattle.lsp_session.specs.Negotiation.{encoding}
-use Rattle.lsp_session.specs.Sent.{Sent}
-use Rattle.lsp_verdict.specs.Event.{call_at, calls, Event, message, fault, snapshot, sent_in}
+use Rattle.lsp_verdict.specs.Event.{fault}
 use Rattle.lsp_verdict.specs.Placed.{Raw}
 use Rattle.lsp_facts.specs.EventFacts.{AreCallFacts, AreFactsBy, AreFacts}
-use Rattle.lsp_verdict.specs.Heard.{Rests}
 use Rattle.lsp_facts.specs.Fact.{Fact, would_have, may_have, counts_in, fails}
 use Rattle.lsp_facts.specs.declared.earlier.Earlier.{Earlier}
 use Rattle.lsp_facts.proofs.FailingChanges.{failing_rule}

@@ -14,17 +14,13 @@ use Rattle.std.specs.Prelude.{slice_get, if◌then◌else◌, unwrap_or, not, �
 use Rattle.std.specs.Str.{bytes_eq}
 use Rattle.std.specs.Result.{result_ok}
 use Rattle.std.proofs.lemmas.Option.{slice_get-get_or}
-use Rattle.lsp_types.specs.declared.position.Encoding.{Encoding}
-use Rattle.lsp_types.specs.declared.line_ends.LineEnds.{LineEnds}
-use Rattle.lsp_text.specs.Edits.{Edit, applied}
-use Rattle.lsp_text.specs.SameText.{compared as compared_text, same_text}
-use Rattle.lsp_docs.specs.Calls.{Text, Call, opens, changes, closes, saves, shows, uri_of}
-use Rattle.lsp_docs.specs.Documents.{Terms, Version}
-use Rattle.lsp_docs.specs.Taken.{call_view}
+use Rattle.lsp_replay.specs.Common.{applied, are_mixed, Call, call_view, changes, closes, Edit}
+use Rattle.lsp_replay.specs.Common.{Encoding, IsMade, LineEnds, opens, same_text, saves, shows}
+use Rattle.lsp_replay.specs.Common.{Terms, text_of, texts_of, uri_of, Version}
+use Rattle.lsp_text.specs.SameText.{compared as compared_text}
+use Rattle.lsp_docs.specs.Calls.{Text}
 use Rattle.lsp_docs.specs.declared.call.Call as code
 use Rattle.lsp_docs.specs.declared.call.Call.TheVariants.{Opens, Changes, Closes, Saves, Shows}
-use Rattle.lsp_docs.specs.Stored.{are_mixed, text_of, texts_of}
-use Rattle.lsp_docs.specs.Tried.{IsMade}
 use Rattle.lsp_docs.proofs.Mixed.{alike_any}
 use Rattle.lsp_replay.specs.declared.heard.EventPlace.{EventPlace}
 use Rattle.lsp_verdict.specs.declared.verdict.Who.TheVariants.{Editor}

@@ -12,17 +12,15 @@ use Rattle.std.specs.Str.{bytes_eq}
 use Rattle.serde_json.specs.Data.{Data, null, number, string, array, object}
 use Rattle.serde_json.specs.Data.{Items, Members, item, no_items}
 use Rattle.serde_json.specs.Find.{as_array, as_str, get_member, unescape, walk}
-use Rattle.lsp_types.specs.declared.position.Position.{Position}
-use Rattle.lsp_types.specs.declared.position.Span.{Span}
+use Rattle.lsp_replay.specs.Common.{all_of, both, Ident, is_object, notification, Position, request}
+use Rattle.lsp_replay.specs.Common.{required, response, Span}
 use Rattle.lsp_types.specs.declared.side.Side.TheVariants.{Editor, Server}
 use Rattle.lsp_rpc.specs.Act as Act
-use Rattle.lsp_rpc.specs.Ident.{Ident}
-use Rattle.lsp_rpc.specs.Message.{request, notification, response}
 use Rattle.lsp_rpc.specs.Params as params
-use Rattle.lsp_rpc.specs.Params.{required, allowed, given, both, all_three, all_of, if_given}
+use Rattle.lsp_rpc.specs.Params.{allowed, given, all_three, if_given}
 use Rattle.lsp_rpc.specs.Params.{array_of, as_uinteger}
 use Rattle.lsp_rpc.specs.Results as results
-use Rattle.lsp_rpc.specs.Shape.{as_id, as_integer, is_object, holds_unless_absent, member, unless_null}
+use Rattle.lsp_rpc.specs.Shape.{as_id, as_integer, holds_unless_absent, member, unless_null}
 use Rattle.lsp_facts.specs.Members.{BadParamsHaveMember, BadResultHasMember, Part, Pointer, Row}
 use Rattle.lsp_facts.specs.Members.{fits, member_fits, row_fits, wrong_by, wrong_in, wrong_item}
 use Rattle.lsp_facts.specs.Members.{wrong_row, parts, result_rows}

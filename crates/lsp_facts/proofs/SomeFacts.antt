@@ -7,32 +7,24 @@ use Rattle.std.specs.Str.{is_utf8}
 use Rattle.std.proofs.lemmas.Str.{IsUtf8-from_is_utf8, is_utf8-from_IsUtf8}
 use Rattle.std.specs.List.{list_any}
 use Rattle.std.proofs.lemmas.Bool.Decides.{nat_tests}
-use Rattle.lsp_rpc.specs.Message.{Message, request, notification, response, result, error}
-use Rattle.lsp_rpc.specs.Outline.{outline}
-use Rattle.lsp_rpc.specs.Words.{words_of}
+use Rattle.lsp_replay.specs.Common.{applied, BreaksRule, Call, call_at, call_rule, calls}
+use Rattle.lsp_replay.specs.Common.{change_rule, changes, closes, compared, differs, Edit, Encoding}
+use Rattle.lsp_replay.specs.Common.{encoding, error, Event, held, LineEnds, Message, message}
+use Rattle.lsp_replay.specs.Common.{message_in, notification, offence, opens, outline, parts_of}
+use Rattle.lsp_replay.specs.Common.{request, response, Rests, result, saves, Sent, sent_in, shows}
+use Rattle.lsp_replay.specs.Common.{snapshot, SyncKind, Terms, text_rule, uri_of, Utf16, Version}
+use Rattle.lsp_replay.specs.Common.{versioned, versions_of, waiting, Who, words_of}
 use Rattle.lsp_rpc.proofs.OutlineWords.{words_by_outline}
-use Rattle.lsp_rpc.specs.Reading.{message_in, parts_of, IsJson, Reads, BreaksRule}
+use Rattle.lsp_rpc.specs.Reading.{IsJson, Reads}
 use Rattle.lsp_verdict.specs.Report.{line, who_name}
-use Rattle.lsp_verdict.specs.declared.verdict.Who.{Who}
-use Rattle.lsp_verdict.specs.Event.{call_at, calls, Event, message, fault, snapshot, sent_in}
+use Rattle.lsp_verdict.specs.Event.{fault}
 use Rattle.lsp_verdict.specs.Placed.{Raw}
-use Rattle.lsp_verdict.specs.Verdict.{offence}
-use Rattle.lsp_verdict.specs.Heard.{Rests}
 use Rattle.serde_json.specs.Data.{Data}
 use Rattle.serde_json.specs.Read.{read}
-use Rattle.lsp_types.specs.declared.change.SyncKind.{SyncKind}
-use Rattle.lsp_types.specs.declared.position.Encoding.{Encoding}
-use Rattle.lsp_types.specs.declared.position.Encoding.TheVariants.{Utf16}
-use Rattle.lsp_types.specs.declared.line_ends.LineEnds.{LineEnds}
-use Rattle.lsp_text.specs.Edits.{Edit, applied}
-use Rattle.lsp_text.specs.SameText.{compared}
 use Rattle.lsp_text.proofs.Differing.Differences.{one_difference}
-use Rattle.lsp_docs.specs.Calls.{Call, opens, changes, closes, saves, shows, uri_of, Text}
-use Rattle.lsp_docs.specs.Documents.{Version, versioned, held, Terms}
-use Rattle.lsp_docs.specs.Snapshots.{kept as versions_kept, waiting, versions_of}
-use Rattle.lsp_docs.specs.Rules.{differs, text_rule, change_rule, fits_kind, rule_of, call_rule}
-use Rattle.lsp_session.specs.Negotiation.{encoding}
-use Rattle.lsp_session.specs.Sent.{Sent}
+use Rattle.lsp_docs.specs.Calls.{Text}
+use Rattle.lsp_docs.specs.Snapshots.{kept as versions_kept}
+use Rattle.lsp_docs.specs.Rules.{fits_kind, rule_of}
 use Rattle.lsp_facts.specs.declared.earlier.Earlier.{Earlier}
 use Rattle.lsp_facts.specs.Fact.{message_event, content_message, value_message, Fact}
 use Rattle.lsp_facts.specs.EventFacts.{id_in, session_facts, fault_facts, AreCallFacts, AreFactsBy}

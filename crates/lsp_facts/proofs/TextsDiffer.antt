@@ -7,19 +7,18 @@ use Rattle.std.specs.Prelude.{nat_lt, slice_get}
 use Rattle.std.specs.List.{list_any}
 use Rattle.std.specs.Result.{result_ok}
 use Rattle.std.proofs.lemmas.Slice.Eq.{bytes_eq-Decides}
-use Rattle.lsp_types.specs.declared.position.Encoding.{Encoding}
-use Rattle.lsp_types.specs.declared.position.Position.{Position}
-use Rattle.lsp_types.specs.declared.change.SyncKind.{SyncKind}
-use Rattle.lsp_types.specs.declared.line_ends.LineEnds.{LineEnds}
-use Rattle.lsp_text.specs.Difference.{DifferFirst, position_at, line_around, line_before_place}
+use Rattle.lsp_replay.specs.Common.{applied, byte_len, Call, call_rule, change_rule, changes}
+use Rattle.lsp_replay.specs.Common.{closes, differs, Edit, Encoding, held, line_around}
+use Rattle.lsp_replay.specs.Common.{line_before_place, LineEnds, opens, other_than, Position}
+use Rattle.lsp_replay.specs.Common.{same_text, saves, shows, SyncKind, Terms, text_rule, Version}
+use Rattle.lsp_replay.specs.Common.{versioned, versions_of, waiting}
+use Rattle.lsp_text.specs.Difference.{DifferFirst, position_at}
 use Rattle.lsp_text.proofs.Differing.Differences.{one_place}
-use Rattle.lsp_text.specs.Edits.{Edit, applied}
-use Rattle.lsp_text.specs.SameText.{compared as compared_text, same_text}
-use Rattle.lsp_docs.specs.Calls.{Text, byte_len, Call, opens, changes, closes, saves, shows}
-use Rattle.lsp_docs.specs.Documents.{Version, versioned, held, Terms}
-use Rattle.lsp_docs.specs.Snapshots.{kept, waiting, versions_of}
-use Rattle.lsp_docs.specs.Rules.{call_rule, change_rule, differs, other_than, save_rule, show_rule}
-use Rattle.lsp_docs.specs.Rules.{text_rule, version_rule}
+use Rattle.lsp_text.specs.SameText.{compared as compared_text}
+use Rattle.lsp_docs.specs.Calls.{Text}
+use Rattle.lsp_docs.specs.Snapshots.{kept}
+use Rattle.lsp_docs.specs.Rules.{save_rule, show_rule}
+use Rattle.lsp_docs.specs.Rules.{version_rule}
 use Rattle.lsp_facts.specs.DocumentFacts.{FindsDifference, AreOfDifference, differs_at, AreApart}
 use Rattle.lsp_facts.specs.Fact.{Fact, counts_in, differing_codes, part_line, Part}
 use Rattle.lsp_facts.specs.Fact.{part_around, part_at}

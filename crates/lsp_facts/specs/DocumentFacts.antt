@@ -4,30 +4,24 @@ use Rattle.std.specs.Prelude.{if◌then◌else◌, option_map, ◌≡◌, ◌⊎
 use Rattle.std.specs.Prelude.{Option, Some, None, option_to_list, Result, Ok, Err, codes, decimal}
 use Rattle.std.specs.Fmt.{signed_decimal}
 use Rattle.std.specs.List.{flat_map, prefix_len}
-use Rattle.lsp_types.specs.declared.position.Encoding.{Encoding}
-use Rattle.lsp_types.specs.declared.position.Encoding.TheVariants.{Utf8, Utf16, Utf32}
-use Rattle.lsp_types.specs.declared.position.Position.{Position}
-use Rattle.lsp_types.specs.declared.position.Span.{Span}
-use Rattle.lsp_types.specs.declared.change.SyncKind.{SyncKind}
-use Rattle.lsp_docs.specs.Rules.{is_of_kind}
-use Rattle.lsp_types.specs.declared.line_ends.LineEnds.{LineEnds}
+use Rattle.lsp_replay.specs.Common.{applied, byte_len, Call, changed, changes, closes, compared}
+use Rattle.lsp_replay.specs.Common.{Edit, Encoding, encoding_name, held, is_of_kind, LiesInside}
+use Rattle.lsp_replay.specs.Common.{Line, LineEnds, lines_of, opens, Position, same_text, saves}
+use Rattle.lsp_replay.specs.Common.{shows, Span, SyncKind, Terms, units, uri_of, Utf16, Utf8}
+use Rattle.lsp_replay.specs.Common.{Version}
+use Rattle.lsp_types.specs.declared.position.Encoding.TheVariants.{Utf32}
 use Rattle.lsp_types.specs.declared.line_ends.LineEnds.TheVariants.{Ignored}
 use Rattle.lsp_types.specs.declared.rules.TheConstants as rules
-use Rattle.lsp_text.specs.Lines.{Line, lines_of}
-use Rattle.lsp_text.specs.Places.{units, place_of}
-use Rattle.lsp_text.specs.Edits.{Edit, changed, applied}
+use Rattle.lsp_text.specs.Places.{place_of}
 use Rattle.lsp_text.specs.Findings.{text_extent}
 use Rattle.lsp_text.specs.Difference.{DifferFirst, position_at}
-use Rattle.lsp_text.specs.InsideCharacter.{LiesInside}
-use Rattle.lsp_text.specs.SameText.{compared, same_text}
 use Rattle.lsp_text.specs.Sizes.{IsSizeWith}
-use Rattle.lsp_docs.specs.Calls.{Text, byte_len, Call, opens, changes, closes, saves, shows, uri_of}
-use Rattle.lsp_docs.specs.Documents.{Terms, Version, held}
+use Rattle.lsp_docs.specs.Calls.{Text}
 use Rattle.lsp_docs.specs.Snapshots.{kept}
 use Rattle.json.specs.Print.{quoted}
 use Rattle.lsp_replay.specs.declared.heard.EventPlace.{EventPlace}
 use Rattle.lsp_facts.specs.declared.earlier.Earlier.{Earlier}
-use Rattle.lsp_verdict.specs.Report.{line, encoding_name, kind_name}
+use Rattle.lsp_verdict.specs.Report.{line, kind_name}
 use Rattle.lsp_facts.specs.Fact.{Fact, holds, sends, counts_in, fails, would_have, may_have}
 use Rattle.lsp_facts.specs.Fact.{part_line, position_words, quoted_text, spaced, part_around}
 use Rattle.lsp_facts.specs.Fact.{differing_codes}

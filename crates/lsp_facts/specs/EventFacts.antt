@@ -8,29 +8,24 @@ use Rattle.std.specs.Str.Lossy.{utf8_valid_len}
 use Rattle.std.specs.Bool.{then_some}
 use Rattle.std.specs.Option.{option_or}
 use Rattle.json.specs.Print.{quoted}
-use Rattle.lsp_rpc.specs.Act.{Text, Act, Offer, Picked, progress, register}
-use Rattle.lsp_rpc.specs.Ident.{Ident}
-use Rattle.lsp_rpc.specs.Message.{Message, request, notification, response}
-use Rattle.lsp_rpc.specs.Results.{picked_at}
-use Rattle.lsp_rpc.specs.Words.{id_text, response_id_text}
-use Rattle.lsp_session.specs.Handshake.{Settled, open_initializes, phase, settled_by}
-use Rattle.lsp_session.specs.Negotiation.{is_synchronisation, encoding}
-use Rattle.lsp_session.specs.Sent.{Sent}
-use Rattle.lsp_verdict.specs.Offences.{is_within}
+use Rattle.lsp_rpc.specs.Act.{Picked, progress, register}
+use Rattle.lsp_replay.specs.Common.{Act, broken, Call, call_at, calls, encoding, Event, id_text}
+use Rattle.lsp_replay.specs.Common.{Ident, is_within, Message, message, notification, Offer}
+use Rattle.lsp_replay.specs.Common.{open_initializes, phase, picked_at, request, response, Rests}
+use Rattle.lsp_replay.specs.Common.{Sent, sent_in, Settled, show, Side, snapshot, Terms, Text}
+use Rattle.lsp_replay.specs.Common.{Utf16, Who}
+use Rattle.lsp_rpc.specs.Words.{response_id_text}
+use Rattle.lsp_session.specs.Handshake.{settled_by}
+use Rattle.lsp_session.specs.Negotiation.{is_synchronisation}
 use Rattle.lsp_verdict.specs.Report.{line}
-use Rattle.lsp_verdict.specs.declared.verdict.Who.{Who}
 use Rattle.lsp_verdict.specs.declared.verdict.Who.TheVariants as who
-use Rattle.lsp_verdict.specs.Event.{call_at, calls, Event, message, fault, snapshot, sent_in}
-use Rattle.lsp_verdict.specs.Heard.{Rests, behind_at, rest_of}
+use Rattle.lsp_verdict.specs.Event.{fault}
+use Rattle.lsp_verdict.specs.Heard.{behind_at, rest_of}
 use Rattle.lsp_verdict.specs.Placed as placed
-use Rattle.lsp_verdict.specs.Placed.{Raw, broken, show}
+use Rattle.lsp_verdict.specs.Placed.{Raw}
 use Rattle.lsp_frame.specs.Front.{shown_bytes, header_front}
 use Rattle.lsp_types.specs.declared.rules.TheConstants as rules
-use Rattle.lsp_types.specs.declared.side.Side.{Side}
 use Rattle.lsp_types.specs.declared.side.Side.TheVariants.{Editor, Server}
-use Rattle.lsp_types.specs.declared.position.Encoding.TheVariants.{Utf16}
-use Rattle.lsp_docs.specs.Calls.{Call}
-use Rattle.lsp_docs.specs.Documents.{Terms}
 use Rattle.lsp_facts.specs.Fact.{Fact, in_phase, more_words, spaced, content_message}
 use Rattle.lsp_facts.specs.FrameFronts.{ends_with_lf}
 use Rattle.lsp_facts.specs.Members.{Pointer, wrong_result, wrong_member}

@@ -7,26 +7,20 @@ use Rattle.std.specs.Global.{Global}
 use Rattle.std.specs.Str.{chars, is_utf8}
 use Rattle.std.specs.List.{flat_map}
 use Rattle.std.specs.Fmt.{signed_decimal, digits, format_spec, padded_integral}
-use Rattle.lsp_text.specs.Difference.{line_around, line_before_place}
+use Rattle.lsp_replay.specs.Common.{bad_log, broken, content, Encoding, encoding_name, id_text}
+use Rattle.lsp_replay.specs.Common.{Ident, is_within, line_around, line_before_place, Message}
+use Rattle.lsp_replay.specs.Common.{message_in, no, parts_of, Phase, Position, show, Span, Who}
+use Rattle.lsp_replay.specs.Common.{words_of, yes}
 use Rattle.lsp_docs.specs.Calls.{Text}
 use lib.Utf8.{encodes}
 use Rattle.json.specs.Print.{quoted}
-use Rattle.lsp_types.specs.declared.position.Encoding.{Encoding}
-use Rattle.lsp_types.specs.declared.position.Position.{Position}
-use Rattle.lsp_types.specs.declared.position.Span.{Span}
 use Rattle.lsp_types.specs.declared.rules.TheConstants as rules
-use Rattle.lsp_rpc.specs.Ident.{Ident}
-use Rattle.lsp_rpc.specs.Words.{id_text, words_of}
-use Rattle.lsp_rpc.specs.Message.{Message}
-use Rattle.lsp_rpc.specs.Reading.{broken_rule, message_in, parts_of}
-use Rattle.lsp_session.specs.declared.phase.Phase.{Phase}
+use Rattle.lsp_rpc.specs.Reading.{broken_rule}
 use Rattle.lsp_session.specs.declared.phase.Phase.TheVariants as phases
 use Rattle.lsp_replay.specs.declared.heard.EventPlace.{EventPlace}
-use Rattle.lsp_verdict.specs.Report.{line, who_name, encoding_name}
-use Rattle.lsp_verdict.specs.Placed.{Raw, content, broken, show}
-use Rattle.lsp_verdict.specs.Offences.{is_within}
-use Rattle.lsp_verdict.specs.Verdict.{Verdict, yes, no, bad_log}
-use Rattle.lsp_verdict.specs.declared.verdict.Who.{Who}
+use Rattle.lsp_verdict.specs.Report.{line, who_name}
+use Rattle.lsp_verdict.specs.Placed.{Raw}
+use Rattle.lsp_verdict.specs.Verdict.{Verdict}
 use Rattle.serde_json.specs.Data.{Data}
 use Rattle.serde_json.specs.Read.{read}
 use Rattle.lsp_facts.specs.FrameFronts.{may_go_on}

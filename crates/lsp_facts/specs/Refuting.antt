@@ -3,13 +3,11 @@ use Rattle.std.specs.Prelude.{ℤ, List, [], ◌∷◌, Bool, false, not, if◌t
 use Rattle.std.specs.Prelude.{option_and_then, option_map, unwrap_or}
 use Rattle.std.specs.List.{find}
 use Rattle.std.specs.Result.{result_ok}
-use Rattle.lsp_types.specs.declared.line_ends.LineEnds.{LineEnds}
-use Rattle.lsp_types.specs.declared.position.Encoding.{Encoding}
-use Rattle.lsp_text.specs.Edits.{Edit, applied}
-use Rattle.lsp_text.specs.SameText.{same_text}
-use Rattle.lsp_docs.specs.Calls.{Text, Bytes, Call, opens, changes, uri_of}
-use Rattle.lsp_docs.specs.Documents.{Terms, Version, versioned, held}
-use Rattle.lsp_docs.specs.Snapshots.{texts_at, waiting, versions_of}
+use Rattle.lsp_replay.specs.Common.{applied, Bytes, Call, changes, Edit, Encoding, held, LineEnds}
+use Rattle.lsp_replay.specs.Common.{opens, same_text, Terms, uri_of, Version, versioned}
+use Rattle.lsp_replay.specs.Common.{versions_of, waiting}
+use Rattle.lsp_docs.specs.Calls.{Text}
+use Rattle.lsp_docs.specs.Snapshots.{texts_at}
 use Rattle.lsp_replay.specs.declared.heard.EventPlace.{EventPlace}
 
 -- ---- texts

@@ -2,14 +2,12 @@
 -- or showed of it.
 use Rattle.std.specs.Prelude.{chars, ◌≡◌, ℕ, List, Bool, true, ◌||◌, ◌==◌, if◌then◌else◌, Option}
 use Rattle.std.specs.Prelude.{Some, None, option_and_then, option_map}
-use Rattle.lsp_docs.specs.Calls.{Text, Bytes, Call, saves, shows, uri_of}
-use Rattle.lsp_docs.specs.Rules.{call_rule, other_than}
-use Rattle.lsp_docs.specs.Documents.{Terms, Version, versioned, held}
+use Rattle.lsp_docs.specs.Calls.{Text}
+use Rattle.lsp_replay.specs.Common.{Bytes, Call, call_at, call_rule, calls, Counted, Event, held}
+use Rattle.lsp_replay.specs.Common.{other_than, SameText, saves, shows, Terms, uri_of, Version}
+use Rattle.lsp_replay.specs.Common.{versioned}
 use Rattle.lsp_docs.specs.Snapshots.{kept}
 use Rattle.lsp_types.specs.declared.rules.TheConstants as rules
-use Rattle.lsp_lined.specs.Counted.{Counted}
-use Rattle.lsp_text.specs.SameText.{SameText}
-use Rattle.lsp_verdict.specs.Event.{call_at, calls, Event}
 use Rattle.lsp_facts.specs.declared.lent_text.LentText.{LentText}
 use Rattle.lsp_facts.specs.declared.lent_text.LentText.TheVariants.{Whole, Stored}
 use Rattle.lsp_facts.specs.declared.made.Brought.{Brought}

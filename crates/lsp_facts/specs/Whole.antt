@@ -4,9 +4,8 @@ use Rattle.std.specs.Prelude.{◌≡◌, ℕ, ◌+◌, ◌-◌, suc, List, [], �
 use Rattle.std.specs.Prelude.{codes, decimal, if◌then◌else◌, Option, Some, None, option_and_then}
 use Rattle.std.specs.Bool.{then_some}
 use Rattle.std.specs.Str.{chars, is_utf8}
-use Rattle.lsp_text.specs.Places.{units}
-use Rattle.lsp_types.specs.declared.position.Encoding.{Encoding}
-use Rattle.lsp_types.specs.declared.position.Encoding.TheVariants.{Utf16, Utf32}
+use Rattle.lsp_replay.specs.Common.{Encoding, units, Utf16}
+use Rattle.lsp_types.specs.declared.position.Encoding.TheVariants.{Utf32}
 use Rattle.lsp_verdict.specs.Report.{line}
 use Rattle.lsp_facts.specs.DocumentFacts.{encodings_fact}
 use Rattle.lsp_facts.specs.Fact.{Fact}

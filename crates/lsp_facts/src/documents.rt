@@ -4,14 +4,10 @@ ghost use Rattle.std.specs.Prelude.{◌≡◌, [], ◌∷◌, ◌++◌, List, fa
 ghost use Rattle.std.specs.Prelude.{option_map};
 ghost use Rattle.std.specs.Str.{chars};
 ghost use Rattle.json.specs.Print.{quoted};
-ghost use Rattle.lsp_text.specs.Changes.{edits_of};
-ghost use Rattle.lsp_docs.specs.Calls.{Call as SpecCall, changes as changes_by, uri_of};
-ghost use Rattle.lsp_docs.specs.Documents.{held};
+ghost use Rattle.lsp_replay.specs.Common.{call_rule, call_view, edits_of, held, IsTried, Stands};
+ghost use Rattle.lsp_replay.specs.Common.{tried_in, uri_of};
+ghost use Rattle.lsp_docs.specs.Calls.{Call as SpecCall, changes as changes_by};
 ghost use Rattle.lsp_docs.specs.Snapshots.{kept};
-ghost use Rattle.lsp_docs.specs.Rules.{call_rule};
-ghost use Rattle.lsp_docs.specs.State.{Stands};
-ghost use Rattle.lsp_docs.specs.Taken.{call_view};
-ghost use Rattle.lsp_docs.specs.Tried.{IsTried, tried_in};
 ghost use Rattle.lsp_verdict.specs.Report.{line};
 ghost use Rattle.lsp_facts.specs.DocumentFacts.{held_fact, kept_fact, opening_facts, sent_facts};
 ghost use Rattle.lsp_facts.specs.DocumentFacts.{editor_key, AreDetails, AreDocumentFacts};

@@ -1,14 +1,10 @@
 //! The text to which a call brings its document.
 
 ghost use Rattle.std.specs.Prelude.{◌≡◌, ℕ, List, Some, true, option_map};
-ghost use Rattle.lsp_types.specs.declared.position.Encoding.{Encoding};
+ghost use Rattle.lsp_replay.specs.Common.{AreTriedOn, call_rule, call_view, edits_of, Encoding};
+ghost use Rattle.lsp_replay.specs.Common.{held, IsTried, Stands, tried_in};
 ghost use Rattle.lsp_docs.specs.Calls.{Call as SpecCall};
-ghost use Rattle.lsp_docs.specs.Documents.{held};
-ghost use Rattle.lsp_docs.specs.Rules.{call_rule};
-ghost use Rattle.lsp_docs.specs.State.{Stands};
-ghost use Rattle.lsp_docs.specs.Taken.{call_view};
-ghost use Rattle.lsp_docs.specs.Tried.{AreTriedOn, IsTried, made_of, tried_in};
-ghost use Rattle.lsp_text.specs.Changes.{edits_of};
+ghost use Rattle.lsp_docs.specs.Tried.{made_of};
 ghost use Rattle.lsp_facts.specs.Refuting.{brings, made_text};
 ghost use Rattle.lsp_facts.specs.TwoTexts.{brought_view, is_of_texts};
 

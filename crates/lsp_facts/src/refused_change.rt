@@ -4,9 +4,7 @@ ghost use Rattle.std.specs.Prelude.{◌≡◌, ◌<◌, ◌^◌, ◌+◌, length
 ghost use Rattle.std.specs.List.{prefix_len};
 ghost use Rattle.std.specs.Str.{chars};
 ghost use Rattle.std.specs.String.{string_bytes};
-ghost use Rattle.lsp_docs.specs.Rules.{is_of_kind};
-ghost use Rattle.lsp_text.specs.Edits.{changed};
-ghost use Rattle.lsp_text.specs.Changes.{edit_of, edits_of};
+ghost use Rattle.lsp_replay.specs.Common.{changed, edit_of, edits_of, is_of_kind};
 ghost use Rattle.lsp_facts.specs.DocumentFacts.{misfit_facts, kind_facts, stray, IsStray};
 ghost use Rattle.lsp_facts.specs.DocumentFacts.{HasStray, IsTooLong, IsReason, IsRefused};
 ghost use Rattle.lsp_types.specs.declared.rules.TheConstants as rules;

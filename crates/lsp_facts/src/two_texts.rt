@@ -3,15 +3,10 @@
 ghost use Rattle.std.specs.Prelude.{◌≡◌, ℕ, List, Some, true, option_map};
 ghost use Rattle.std.specs.Str.{chars};
 ghost use Rattle.lsp_docs.specs.Calls.{Call as SpecCall};
-ghost use Rattle.lsp_docs.specs.Rules.{call_rule};
-ghost use Rattle.lsp_docs.specs.State.{Stands};
-ghost use Rattle.lsp_docs.specs.Taken.{call_view};
-ghost use Rattle.lsp_docs.specs.Tried.{IsTried, tried_in};
+ghost use Rattle.lsp_replay.specs.Common.{call_at, call_rule, call_view, calls, Event, IsTried};
+ghost use Rattle.lsp_replay.specs.Common.{made_in, offence, Stands, tried_in, TriesCall};
 ghost use Rattle.lsp_facts.specs.TwoTexts as spec;
 ghost use Rattle.lsp_facts.specs.TwoTexts.{brought_view, seen_texts, texts_view};
-ghost use Rattle.lsp_replay.specs.Tries.{TriesCall, made_in};
-ghost use Rattle.lsp_verdict.specs.Event.{Event, call_at, calls};
-ghost use Rattle.lsp_verdict.specs.Verdict.{offence};
 
 use crate::lent_text::LentText;
 use crate::made::{Brought, brings};

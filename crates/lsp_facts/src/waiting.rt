@@ -4,12 +4,8 @@ ghost use Rattle.std.specs.Prelude.{◌≡◌, List, Some, true, not, IfOk, opti
 ghost use Rattle.std.specs.List.{list_any};
 ghost use Rattle.lsp_types.specs.declared.rules.TheConstants as rules;
 ghost use Rattle.lsp_docs.specs.Calls.{Call as SpecCall};
-ghost use Rattle.lsp_docs.specs.Rules.{call_rule};
-ghost use Rattle.lsp_docs.specs.State.{Stands};
-ghost use Rattle.lsp_docs.specs.Stored.{are_mixed, text_of, texts_of};
-ghost use Rattle.lsp_docs.specs.Taken.{call_view};
-ghost use Rattle.lsp_docs.specs.Tried.{IsTried, tried_in};
-ghost use Rattle.lsp_text.specs.SameText.{same_text};
+ghost use Rattle.lsp_replay.specs.Common.{are_mixed, call_rule, call_view, IsTried, same_text};
+ghost use Rattle.lsp_replay.specs.Common.{Stands, text_of, texts_of, tried_in};
 ghost use Rattle.lsp_facts.specs.TwoTexts.{lent_text};
 ghost use Rattle.lsp_facts.specs.Refuting as spec;
 

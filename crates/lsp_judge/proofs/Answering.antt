@@ -4,34 +4,28 @@ use Rattle.std.proofs.Common.{refl, sym, ap, subst, ◌∙◌}
 use Rattle.std.specs.Prelude.{IfOk, OnErr, option_map}
 use Rattle.std.proofs.lemmas.Option.{same_Some}
 use Rattle.std.proofs.lemmas.Result.{IfOk-weaker}
-use Rattle.lsp_frame.specs.Bounds.{Bounds, IsInRange}
-use Rattle.lsp_frame.specs.declared.format.Format.{Format}
-use Rattle.lsp_docs.specs.Documents.{terms_of}
+use Rattle.lsp_replay.specs.Common.{as_given, bad_log, Bounds, Completeness, Event, first_no}
+use Rattle.lsp_replay.specs.Common.{Format, format_or_one, IsFinal, IsFinalBy, IsInRange, IsSession}
+use Rattle.lsp_replay.specs.Common.{IsVerdict, log_terms, LogCode, no, no_by, Summary, summary}
+use Rattle.lsp_replay.specs.Common.{terms_of, verdict_view, Who, yes}
 use Rattle.lsp_log.specs.Log.{Record}
-use Rattle.lsp_log.specs.declared.fault.LogCode.{LogCode}
 use Rattle.lsp_types.specs.declared.memory.Memory.{Memory}
 use Rattle.lsp_judge.specs.declared.ruling.Ruling.{Ruling}
 use Rattle.lsp_judge.specs.declared.ruling.Ruling.TheVariants as rulings
 use Rattle.lsp_verdict.specs.declared.verdict.Summary as summaries
 use Rattle.lsp_verdict.specs.declared.verdict.Verdict as code
 use Rattle.lsp_verdict.specs.declared.verdict.Verdict.TheVariants as verdicts
-use Rattle.lsp_verdict.specs.declared.verdict.Who.{Who}
-use Rattle.lsp_verdict.specs.declared.completeness.Completeness.{Completeness}
 use Rattle.lsp_verdict.specs.declared.completeness.Completeness.TheVariants.{Ignored, Required}
 use Rattle.lsp_judge.specs.Answered.{NamesFirst, NamesRest, NamesShort, NoneOffends, AreClean}
 use Rattle.lsp_judge.specs.Answered.{IsClean, SaysYes}
 use Rattle.lsp_verdict.specs.Complete.{AreComplete, IsBroughtToEnd, IsCompleteFinal}
-use Rattle.lsp_verdict.specs.Complete.{IsCompleteVerdict, IsFinalBy}
-use Rattle.lsp_verdict.specs.Event.{Event}
-use Rattle.lsp_verdict.specs.Given.{verdict_view, as_given}
+use Rattle.lsp_verdict.specs.Complete.{IsCompleteVerdict}
 use Rattle.lsp_verdict.specs.Laws.{HasRest107, Names}
 use Rattle.lsp_verdict.specs.Kept.{AreKept}
-use Rattle.lsp_verdict.specs.Outcome.{IsFinal, IsVerdict, format_or_one, log_terms}
-use Rattle.lsp_verdict.specs.Placed.{IsSession}
 use Rattle.lsp_judge.specs.Judging.{AnswersEnd, KeepsAnswer}
 use Rattle.lsp_judge.specs.Standing.{IfRefused, verdict_in, HasOffence, State, Stands, WasRefused}
 use Rattle.lsp_judge.specs.Standing.{is_given}
-use Rattle.lsp_verdict.specs.Verdict.{Verdict, Summary, yes, no, bad_log, summary, first_no, no_by}
+use Rattle.lsp_verdict.specs.Verdict.{Verdict}
 use Rattle.lsp_verdict.proofs.Completing.{some_complete_final, are_complete, complete_no}
 use Rattle.lsp_verdict.proofs.Completing.{complete_yes, one_complete_verdict}
 use Rattle.lsp_verdict.proofs.Logs.{some_final, one_verdict}

@@ -1,26 +1,17 @@
 -- What `check` answers.
 use Rattle.std.proofs.Common.{◌≡◌, List, ℕ, Option, Result}
-use Rattle.lsp_frame.specs.Bounds.{Bounds, IsInRange}
-use Rattle.lsp_frame.specs.declared.format.Format.{Format}
-use Rattle.lsp_verdict.specs.Runs.{Ports}
-use Rattle.lsp_verdict.specs.declared.outcome.RunFault.{RunFault}
+use Rattle.lsp_replay.specs.Common.{bad_log, Bounds, Completeness, Event, Format, IsInRange}
+use Rattle.lsp_replay.specs.Common.{IsVerdictBy, log_terms, LogCode, no, Ports, report, RunFault}
+use Rattle.lsp_replay.specs.Common.{summary, verdict_view, Who, yes}
 use Rattle.lsp_verdict.proofs.RunsJudged.{read_map}
-use Rattle.lsp_verdict.specs.Complete.{IsVerdictBy}
-use Rattle.lsp_verdict.specs.Event.{Event}
-use Rattle.lsp_verdict.specs.Given.{verdict_view}
 use Rattle.lsp_verdict.specs.Laws.{HasFault}
-use Rattle.lsp_verdict.specs.Outcome.{log_terms}
-use Rattle.lsp_verdict.specs.Report.{report}
-use Rattle.lsp_verdict.specs.Verdict.{Verdict, no, yes, bad_log, summary}
-use Rattle.lsp_verdict.specs.declared.completeness.Completeness.{Completeness}
+use Rattle.lsp_verdict.specs.Verdict.{Verdict}
 use Rattle.lsp_verdict.specs.declared.completeness.Completeness.TheVariants.{Ignored, Required}
 use Rattle.lsp_verdict.specs.declared.outcome.Outcome.{Outcome}
 use Rattle.lsp_verdict.specs.declared.verdict.Summary as code_summary
 use Rattle.lsp_verdict.specs.declared.verdict.Verdict.TheVariants as verdicts
-use Rattle.lsp_verdict.specs.declared.verdict.Who.{Who}
 use Rattle.lsp_verdict.proofs.Completing.{complete_means_ended, complete_means_fault, lack_is_named}
 use Rattle.lsp_verdict.proofs.Meanings.{yes_means_kept, no_names, bad_log_has}
-use Rattle.lsp_log.specs.declared.fault.LogCode.{LogCode}
 use Rattle.lsp_judge.specs.Answered.{IsClean}
 use Rattle.lsp_judge.specs.Checked.{Checked, YesMeans, NoMeans, EndsAsDue, WritesVerdict}
 use Rattle.lsp_judge.proofs.Answering.{clean_yes, clean_complete}

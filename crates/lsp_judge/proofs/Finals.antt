@@ -3,38 +3,29 @@ use Rattle.std.proofs.Common.{◌≡◌, ◌<◌, ◌^◌, ℕ, Bool, true, fals
 use Rattle.std.proofs.Common.{refl, sym, ap, subst, ◌∙◌, append-nil}
 use Rattle.std.specs.Prelude.{IfSome, unwrap_or, option_map}
 use Rattle.std.specs.Option.{option_or}
-use Rattle.lsp_frame.specs.Bounds.{Bounds}
-use Rattle.lsp_frame.specs.declared.format.Format.{Format}
+use Rattle.lsp_replay.specs.Common.{as_given, bad_log, bad_log_of, Bounds, completed, Completeness}
+use Rattle.lsp_replay.specs.Common.{Counts, Ending, ends_inside, Event, first_end, first_no}
+use Rattle.lsp_replay.specs.Common.{Follows, Format, IsFinal, IsFinalBy, IsSession, LogCode}
+use Rattle.lsp_replay.specs.Common.{no_next, rest_of, sent_in, summary, summary_view, Terms}
+use Rattle.lsp_replay.specs.Common.{terms_of, Who, yes}
 use Rattle.lsp_types.specs.declared.side.Side.TheVariants.{Editor, Server}
 use Rattle.lsp_session.specs.Incomplete.{incomplete}
 use Rattle.lsp_session.specs.State as session
 use Rattle.lsp_docs.specs.State as docs
-use Rattle.lsp_docs.specs.Documents.{Terms, terms_of}
-use Rattle.lsp_log.specs.declared.fault.LogCode.{LogCode}
 use Rattle.lsp_log.specs.Log.{Record}
 use Rattle.lsp_replay.specs.LogEvents.{flaw_of}
 use Rattle.lsp_replay.specs.declared.log_events.End.{End}
 use Rattle.lsp_replay.specs.declared.log_events.LogEvents.{LogEvents}
 use Rattle.lsp_replay.specs.Streams as frames
-use Rattle.lsp_replay.specs.Streams.{ends_inside}
-use Rattle.lsp_verdict.specs.Complete.{IsFinalBy, completed}
-use Rattle.lsp_verdict.specs.Event.{Event, sent_in}
-use Rattle.lsp_verdict.specs.Given.{summary_view, as_given}
-use Rattle.lsp_verdict.specs.Outcome.{IsFinal}
 use Rattle.lsp_judge.specs.Standing.{closed_by, end_by, ends_with, verdict_in, HasHeard}
 use Rattle.lsp_judge.specs.Standing.{State, HasOffence, Stands}
 use Rattle.lsp_judge.specs.JudgingRun.{completed_by}
-use Rattle.lsp_replay.specs.SessionEnd.{first_end}
-use Rattle.lsp_replay.specs.Standing.{Follows}
-use Rattle.lsp_verdict.specs.Placed.{Raw, IsSession}
-use Rattle.lsp_verdict.specs.Verdict.{Ending, Verdict, yes, bad_log, bad_log_of, first_no, no_next}
-use Rattle.lsp_verdict.specs.Verdict.{rest_of, summary, verdict}
-use Rattle.lsp_verdict.specs.declared.counts.Counts.{Counts}
-use Rattle.lsp_verdict.specs.declared.completeness.Completeness.{Completeness}
+use Rattle.lsp_verdict.specs.Placed.{Raw}
+use Rattle.lsp_verdict.specs.Verdict.{Verdict}
+use Rattle.lsp_verdict.specs.Verdict.{verdict}
 use Rattle.lsp_verdict.specs.declared.completeness.Completeness.TheVariants.{Ignored, Required}
 use Rattle.lsp_verdict.specs.declared.verdict.Summary as code
 use Rattle.lsp_judge.specs.declared.ruling.Ruling.{Ruling}
-use Rattle.lsp_verdict.specs.declared.verdict.Who.{Who}
 use Rattle.lsp_verdict.specs.declared.verdict.Who.TheVariants as who
 use Rattle.lsp_verdict.proofs.Completing.{completed_other}
 use Rattle.lsp_verdict.proofs.Logs.{final_more}

@@ -1,9 +1,8 @@
 -- What holds of the log that a source in memory gives holds of the bytes there.
 use Rattle.std.proofs.Common.{◌≡◌, ℕ, true, List, Option, Some, None, sym, ◌∙◌}
 use Rattle.std.specs.Io.KnownBytes.{Consumes, IsAtEnd}
-use Rattle.lsp_frame.specs.Bounds.{Bounds}
-use Rattle.lsp_frame.specs.Told.{Told}
-use Rattle.lsp_verdict.specs.Runs.{GoesOn, OfRead}
+use Rattle.lsp_replay.specs.Common.{Bounds, OfRead, Told}
+use Rattle.lsp_verdict.specs.Runs.{GoesOn}
 
 pub of_memory : (limits : Bounds) (log : List ℕ) (before after : Told) (Holds : List ℕ → Type 0)
     → before.bytes ≡ Some log → OfRead limits before after Holds → Holds log

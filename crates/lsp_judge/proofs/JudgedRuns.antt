@@ -5,20 +5,15 @@ use Rattle.lsp_judge.specs.JudgingLaws.{JudgingAnswersVerdict, OneJudgingOutput}
 use Rattle.lsp_judge.specs.JudgingRun.{completed_by, due_for, judging_run, said_by, verdict_of}
 use Rattle.lsp_judge.proofs.JudgingRuns.{gives}
 use Rattle.lsp_judge.proofs.Told.{ends_verdict}
-use Rattle.lsp_replay.specs.Run.{IsJudged}
+use Rattle.lsp_replay.specs.Common.{Completeness, ending, Event, heard_events, IsJudged}
+use Rattle.lsp_replay.specs.Common.{IsVerdictBy, no_by, no_of, rule_of}
 use Rattle.lsp_replay.specs.RunLaws.{IsSameEnd}
-use Rattle.lsp_replay.specs.Telling.{no_of, rule_of}
 use Rattle.lsp_replay.proofs.GivenVerdicts.{IsGiven, completed_given, some_judged, some_no}
 use Rattle.lsp_replay.proofs.GivenVerdicts.{verdict_given}
 use Rattle.lsp_replay.proofs.JsonRuns.{answers_in, has_one_in}
 use Rattle.lsp_replay.proofs.Outputs.{judged_same}
 use Rattle.lsp_replay.proofs.RunLaws.{answers_verdict}
-use Rattle.lsp_verdict.specs.Complete.{IsVerdictBy}
-use Rattle.lsp_verdict.specs.Event.{Event}
-use Rattle.lsp_verdict.specs.Heard.{heard_events}
-use Rattle.lsp_verdict.specs.Outcome.{ending}
-use Rattle.lsp_verdict.specs.Verdict.{Verdict, no_by}
-use Rattle.lsp_verdict.specs.declared.completeness.Completeness.{Completeness}
+use Rattle.lsp_verdict.specs.Verdict.{Verdict}
 use Rattle.lsp_verdict.specs.declared.completeness.Completeness.TheVariants.{Ignored, Required}
 use Rattle.lsp_verdict.specs.declared.outcome.Outcome.{Outcome}
 

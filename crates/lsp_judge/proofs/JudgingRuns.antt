@@ -3,41 +3,30 @@ use Rattle.std.specs.Prelude.{is_some, unwrap_or}
 use Rattle.std.specs.List.{cons_option, flat_map}
 use Rattle.std.proofs.Common.{◌≡◌, ◌⊎◌, ℕ, List, [], ◌∷◌, ◌++◌, Option, Some, None, Result, Ok}
 use Rattle.std.proofs.Common.{Err, inl, inr, refl, sym, ap, subst, ◌∙◌, append_assoc, append-nil}
-use Rattle.lsp_docs.specs.Documents.{Terms}
-use Rattle.lsp_frame.specs.Bounds.{Bounds, IsInRange}
-use Rattle.lsp_frame.specs.Told.{Took}
-use Rattle.lsp_frame.specs.declared.format.Format.{Format}
+use Rattle.lsp_replay.specs.Common.{Bounds, Completeness, each_from, EndsAfter, Event, first_no}
+use Rattle.lsp_replay.specs.Common.{Format, Heard, heard_events, IsInRange, IsJudged, IsPassed}
+use Rattle.lsp_replay.specs.Common.{IsTold, IsVerdict, IsVerdictBy, Lines, log_terms, no_of, Ports}
+use Rattle.lsp_replay.specs.Common.{report, Rests, RunFault, shown_line, StopsIn, Tail, Terms, Took}
+use Rattle.lsp_replay.specs.Common.{verdict_view}
 use Rattle.lsp_log.specs.Log.{Record}
 use Rattle.lsp_judge.specs.Checked.{IsCut, WritesVerdict}
 use Rattle.lsp_judge.specs.JudgingRun.{Form, JudgingAsked, a_report, due_for, judging_run, said_by}
 use Rattle.lsp_judge.specs.JudgingRun.{verdict_of}
-use Rattle.lsp_replay.specs.Lines.{shown_line}
 use Rattle.lsp_judge.specs.ShownLog.{BeginsShown, IsShown, Showed}
 use Rattle.lsp_judge.proofs.Told.{EndsBy, ends_verdict, told_end, told_no}
-use Rattle.lsp_replay.specs.Run.{DueAt, Passes, EndsAfter, HasSaid, IsJudged, IsPassed, IsTold}
-use Rattle.lsp_replay.specs.Run.{SaysAll, StopsIn, Tail}
-use Rattle.lsp_replay.specs.Telling.{no_of}
+use Rattle.lsp_replay.specs.Run.{DueAt, Passes, HasSaid}
+use Rattle.lsp_replay.specs.Run.{SaysAll}
 use Rattle.lsp_replay.proofs.AllHeard.{first_after}
 use Rattle.lsp_replay.proofs.FirstEvents.{says_more}
 use Rattle.lsp_replay.proofs.JudgedRuns.{IsDueOf, judged_run}
 use Rattle.lsp_replay.proofs.PassEnds.{IsQuiet, cut_whole, read_here, silent_after}
 use Rattle.lsp_replay.proofs.Seeing.{events-push}
 use Rattle.lsp_replay.proofs.TextRuns.{no_none}
-use Rattle.lsp_verdict.specs.Complete.{IsVerdictBy}
-use Rattle.lsp_verdict.specs.Event.{Event}
-use Rattle.lsp_verdict.specs.Given.{verdict_view}
-use Rattle.lsp_verdict.specs.Heard.{Heard, Rests, heard_events}
-use Rattle.lsp_verdict.specs.LookBack.{each_from}
-use Rattle.lsp_verdict.specs.Outcome.{IsVerdict, log_terms}
-use Rattle.lsp_verdict.specs.Runs.{Ports, Judges}
-use Rattle.lsp_verdict.specs.Report.{report}
+use Rattle.lsp_verdict.specs.Runs.{Judges}
 use Rattle.lsp_verdict.specs.Shown.{line_at}
-use Rattle.lsp_verdict.specs.Verdict.{Verdict, first_no}
-use Rattle.lsp_verdict.specs.declared.completeness.Completeness.{Completeness}
+use Rattle.lsp_verdict.specs.Verdict.{Verdict}
 use Rattle.lsp_verdict.specs.declared.completeness.Completeness.TheVariants.{Ignored}
-use Rattle.lsp_verdict.specs.declared.lines.Lines.{Lines}
 use Rattle.lsp_verdict.specs.declared.outcome.Outcome.{Outcome}
-use Rattle.lsp_verdict.specs.declared.outcome.RunFault.{RunFault}
 use Rattle.lsp_verdict.specs.declared.outcome.RunFault.TheVariants as faults
 use Rattle.lsp_verdict.specs.declared.verdict.Verdict as code
 use Rattle.lsp_verdict.proofs.RunsJudged.{read_map, plain_by}

@@ -4,38 +4,28 @@ use Rattle.std.proofs.Common.{◌≡◌, ℕ, ◌+◌, ◌<◌, ◌^◌, Bool, L
 use Rattle.std.proofs.Common.{Option, Some, None, true, refl, sym, ap, ◌∙◌, arith}
 use Rattle.std.proofs.Math.Bool.{and-true, or-true}
 use Rattle.lsp_docs.specs.State as docs
-use Rattle.lsp_docs.specs.Documents.{Terms}
-use Rattle.lsp_log.specs.declared.fault.LogCode.{LogCode}
+use Rattle.lsp_replay.specs.Common.{as_given, bad_log, bad_log_of, Closes, Completeness, Counts}
+use Rattle.lsp_replay.specs.Common.{decoder_of, ending, ends_inside, Event, first_end, first_no}
+use Rattle.lsp_replay.specs.Common.{Follows, Heard, heard_events, is_rest, IsEnd, Lines, LogCode}
+use Rattle.lsp_replay.specs.Common.{no_by, no_of, Rests, rule_of, shown_line, Side, Stood, Tail}
+use Rattle.lsp_replay.specs.Common.{Terms, verdict_view, Who}
 use Rattle.lsp_session.specs.State as session
-use Rattle.lsp_types.specs.declared.side.Side.{Side}
 use Rattle.lsp_types.specs.declared.side.Side.TheVariants.{Editor, Server}
 use Rattle.lsp_judge.specs.Standing.{closed_by, end_by, ends_with}
 use Rattle.lsp_judge.specs.JudgingRun.{JudgingAsked, completed_by, due_for, judging_run, said_by}
 use Rattle.lsp_judge.specs.JudgingRun.{verdict_of}
-use Rattle.lsp_replay.specs.Lines.{shown_line}
 use Rattle.lsp_judge.proofs.Finals.{by_end, by_log}
-use Rattle.lsp_replay.specs.Run.{Tail}
-use Rattle.lsp_replay.specs.SessionEnd.{first_end}
-use Rattle.lsp_replay.specs.Standing.{Follows}
-use Rattle.lsp_replay.specs.Streams.{decoder_of, ends_inside}
-use Rattle.lsp_replay.specs.Telling.{Closes, IsEnd, Says, Stood, no_of, rule_of}
+use Rattle.lsp_replay.specs.Telling.{Says}
 use Rattle.lsp_replay.specs.declared.log_events.End.{End}
 use Rattle.lsp_replay.specs.declared.log_events.LogEvents.{LogEvents}
 use Rattle.lsp_replay.specs.declared.seen.Flow.TheVariants.{GoOn, Stop}
 use Rattle.lsp_replay.proofs.AllHeard.{few_events, first_after, follows_all, none_is}
 use Rattle.lsp_replay.proofs.PassEnds.{Boxed}
-use Rattle.lsp_verdict.specs.Event.{Event}
-use Rattle.lsp_verdict.specs.Given.{as_given, verdict_view}
-use Rattle.lsp_verdict.specs.Heard.{Heard, Rests, heard_events, rest_of}
-use Rattle.lsp_verdict.specs.Outcome.{ending, is_rest}
-use Rattle.lsp_verdict.specs.Verdict.{Verdict, bad_log, bad_log_of, first_no, no_by, verdict}
-use Rattle.lsp_verdict.specs.declared.completeness.Completeness.{Completeness}
+use Rattle.lsp_verdict.specs.Heard.{rest_of}
+use Rattle.lsp_verdict.specs.Verdict.{Verdict, verdict}
 use Rattle.lsp_verdict.specs.declared.completeness.Completeness.TheVariants.{Ignored, Required}
-use Rattle.lsp_verdict.specs.declared.counts.Counts.{Counts}
-use Rattle.lsp_verdict.specs.declared.lines.Lines.{Lines}
 use Rattle.lsp_verdict.specs.declared.outcome.Outcome.TheVariants.{Judged}
 use Rattle.lsp_verdict.specs.declared.verdict.Verdict as code
-use Rattle.lsp_verdict.specs.declared.verdict.Who.{Who}
 use Rattle.lsp_verdict.proofs.ExactCounts.{no_exact, yes_exact}
 use Rattle.lsp_verdict.proofs.Offences.Offending.{no_frame_fault}
 

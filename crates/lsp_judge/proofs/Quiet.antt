@@ -3,11 +3,8 @@ use Rattle.std.specs.Prelude.{◌||◌, is_some}
 use Rattle.std.proofs.Common.{◌≡◌, true, false, List, [], Option, Some, None, refl, ◌∙◌}
 use Rattle.lsp_judge.specs.JudgingRun.{JudgingAsked, judging_run, said_by}
 use Rattle.lsp_replay.specs.JsonRun.{IsQuiet}
-use Rattle.lsp_replay.specs.Lines.{shown_line}
-use Rattle.lsp_replay.specs.Telling.{no_of}
-use Rattle.lsp_verdict.specs.Heard.{Heard}
+use Rattle.lsp_replay.specs.Common.{Heard, Lines, no_of, shown_line}
 use Rattle.lsp_verdict.specs.Verdict.{Verdict}
-use Rattle.lsp_verdict.specs.declared.lines.Lines.{Lines}
 
 nothing_shown : (lines : Option Lines) (before : List Heard) (h : Heard)
     → (is_some lines || false) ≡ false → shown_line lines before h ≡ []

@@ -3,21 +3,17 @@ use Rattle.std.proofs.Common.{◌≡◌, List, [], ◌∷◌, ◌++◌, Some, No
 use Rattle.std.proofs.Common.{ap}
 use Rattle.std.specs.Prelude.{IfSome, option_map}
 use Rattle.std.proofs.lemmas.Option.{IfSome_then}
-use Rattle.lsp_frame.specs.Bounds.{Bounds, IsInRange}
-use Rattle.lsp_frame.specs.declared.format.Format.{Format}
+use Rattle.lsp_replay.specs.Common.{as_given, Bounds, Counts, Event, first_no, Follows, Format}
+use Rattle.lsp_replay.specs.Common.{IsInRange, IsSession, no_at, Offends, Placed, Reads, Terms}
+use Rattle.lsp_replay.specs.Common.{terms_of}
 use Rattle.lsp_session.specs.State as session
 use Rattle.lsp_docs.specs.State as docs
-use Rattle.lsp_docs.specs.Documents.{Terms, terms_of}
 use Rattle.lsp_log.specs.Log.{Record}
-use Rattle.lsp_replay.specs.Standing.{Keeps as KeepsOne, Follows}
+use Rattle.lsp_replay.specs.Standing.{Keeps as KeepsOne}
 use Rattle.lsp_replay.specs.Streams as frames
 use Rattle.lsp_replay.proofs.Following.{follows_on}
-use Rattle.lsp_verdict.specs.Event.{Event}
-use Rattle.lsp_verdict.specs.Given.{as_given}
-use Rattle.lsp_verdict.specs.Outcome.{Offends}
-use Rattle.lsp_verdict.specs.Placed.{Raw, Placed, Reads, IsSession}
-use Rattle.lsp_verdict.specs.Verdict.{Verdict, first_no, no_at}
-use Rattle.lsp_verdict.specs.declared.counts.Counts.{Counts}
+use Rattle.lsp_verdict.specs.Placed.{Raw}
+use Rattle.lsp_verdict.specs.Verdict.{Verdict}
 use Rattle.lsp_verdict.proofs.OneEvent.{some_list, lists_join}
 use Rattle.lsp_verdict.proofs.Verdicts.{no_found, nothing_offends}
 use Rattle.lsp_verdict.specs.Upgraded.{AreAccepted}

@@ -1,18 +1,13 @@
 -- Which streams end inside a frame, where no event offends.
 use Rattle.std.proofs.Common.{◌≡◌, ℕ, List, [], ◌∷◌, ◌++◌, None, refl, ap, subst, ◌∙◌}
 use Rattle.std.specs.List.{AllZip}
-use Rattle.lsp_frame.specs.Bounds.{Bounds}
-use Rattle.lsp_types.specs.declared.side.Side.{Side}
-use Rattle.lsp_docs.specs.Documents.{Terms}
+use Rattle.lsp_replay.specs.Common.{Bounds, broken, content, decoder_of, ends_inside, Event}
+use Rattle.lsp_replay.specs.Common.{first_from, first_no, HasRest, is_rest, joined, no_at, Reads}
+use Rattle.lsp_replay.specs.Common.{show, Side, Terms}
 use Rattle.lsp_log.specs.Log.{Record}
 use Rattle.lsp_replay.specs.Streams as frames
-use Rattle.lsp_replay.specs.Streams.{decoder_of, ends_inside}
 use Rattle.lsp_replay.proofs.Fronts.{faults_in, side_rest, side_ends}
-use Rattle.lsp_verdict.specs.Event.{Event}
-use Rattle.lsp_verdict.specs.LookBack.{first_from}
-use Rattle.lsp_verdict.specs.Outcome.{HasRest, is_rest}
-use Rattle.lsp_verdict.specs.Placed.{Raw, content, broken, show, Reads, joined}
-use Rattle.lsp_verdict.specs.Verdict.{no_at, first_no}
+use Rattle.lsp_verdict.specs.Placed.{Raw}
 use Rattle.lsp_verdict.proofs.Below.{one_stream}
 use Rattle.lsp_verdict.proofs.LookBackLemmas.{or_none_parts}
 

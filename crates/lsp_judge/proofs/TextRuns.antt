@@ -7,34 +7,28 @@ use Rattle.std.proofs.Common.{String}
 use Rattle.std.specs.Prelude.{is_some, if◌then◌else◌, string_bytes, unwrap_or}
 use Rattle.std.specs.Option.{option_or}
 use Rattle.std.proofs.lemmas.Str.{chars_from_encodes, IsUtf8-string_bytes}
-use Rattle.lsp_frame.specs.Bounds.{Bounds}
-use Rattle.lsp_frame.specs.Told.{Told}
-use Rattle.lsp_frame.specs.declared.format.Format.{Format}
+use Rattle.lsp_replay.specs.Common.{bad_log_of, Bounds, calls, end_answer, ending, Event}
+use Rattle.lsp_replay.specs.Common.{failures_after, first_from, first_no, first_of, Format, Heard}
+use Rattle.lsp_replay.specs.Common.{heard_events, held, held_answer, IsTold, kept_before, log_terms}
+use Rattle.lsp_replay.specs.Common.{LogCode, no_at, no_of, OfRead, ports, rest_of, RunFault}
+use Rattle.lsp_replay.specs.Common.{summary, Tail, Terms, text_at, text_behind, TextAnswer, Told}
+use Rattle.lsp_replay.specs.Common.{up_to_editor, yes}
 use Rattle.lsp_log.specs.Log.{Record}
-use Rattle.lsp_log.specs.declared.fault.LogCode.{LogCode}
 use Rattle.lsp_types.specs.declared.side.Side.TheVariants.{Editor}
-use Rattle.lsp_docs.specs.Documents.{held, Terms}
 use Rattle.lsp_judge.specs.TextRun.{given_as}
 use Rattle.lsp_judge.proofs.Told.{told_verdict}
-use Rattle.lsp_replay.specs.Run.{IsTold, Tail}
-use Rattle.lsp_replay.specs.Telling.{kept_before, no_of}
 use Rattle.lsp_replay.specs.TextAnswers.{FindsText, TextAsked, WritesText, answer_by, answer_view}
-use Rattle.lsp_replay.specs.TextAnswers.{end_answer, is_reached, text_at, text_behind}
+use Rattle.lsp_replay.specs.TextAnswers.{is_reached}
 use Rattle.lsp_replay.specs.declared.text_answer.TextAnswer as code
 use Rattle.lsp_replay.proofs.AllHeard.{first_after}
 use Rattle.lsp_replay.proofs.Seeing.{events-join, events-push}
-use Rattle.lsp_verdict.specs.Event.{calls, Event}
-use Rattle.lsp_verdict.specs.Heard.{Heard, heard_events}
-use Rattle.lsp_verdict.specs.LookBack.{first_from, first_of}
-use Rattle.lsp_verdict.specs.Outcome.{ending, log_terms}
-use Rattle.lsp_verdict.specs.Runs.{ports, GaveAtMost, OfRead, failures_after}
-use Rattle.lsp_verdict.specs.Shown.{TextAnswer, text_is, no_document, no_difference, too_few}
-use Rattle.lsp_verdict.specs.Shown.{held_answer, missing_answer, refused, text_answer, up_to_editor}
+use Rattle.lsp_verdict.specs.Runs.{GaveAtMost}
+use Rattle.lsp_verdict.specs.Shown.{text_is, no_document, no_difference, too_few}
+use Rattle.lsp_verdict.specs.Shown.{missing_answer, refused, text_answer}
 use Rattle.lsp_verdict.specs.Shown.{AnswersText, EndsAs, IsText, written_of}
-use Rattle.lsp_verdict.specs.Verdict.{Verdict, bad_log_of, count_of, first_no, is_of, no_at, rest_of}
-use Rattle.lsp_verdict.specs.Verdict.{summary, verdict, yes}
+use Rattle.lsp_verdict.specs.Verdict.{Verdict, count_of, is_of}
+use Rattle.lsp_verdict.specs.Verdict.{verdict}
 use Rattle.lsp_verdict.specs.declared.outcome.Outcome.{Outcome}
-use Rattle.lsp_verdict.specs.declared.outcome.RunFault.{RunFault}
 use Rattle.lsp_verdict.specs.declared.outcome.RunFault.TheVariants as faults
 use Rattle.lsp_verdict.proofs.LookBackLemmas.{first_of-more}
 use Rattle.lsp_verdict.proofs.Offences.Offending.{all_are_kept}

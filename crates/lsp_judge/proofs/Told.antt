@@ -7,28 +7,19 @@ use Rattle.std.proofs.Math.Seq.{take-length, take-append_seam}
 use Rattle.std.specs.List.{AllZip}
 use Rattle.lsp_verdict.specs.Shown.{show_of, kept}
 use Rattle.lsp_verdict.proofs.Logs.{same_events, one_verdict, some_verdict}
-use Rattle.lsp_verdict.specs.Event.{Event}
-use Rattle.lsp_verdict.specs.Verdict.{yes, no_by, bad_log_of, rest_of, summary, offence, no_next}
-use Rattle.lsp_verdict.specs.Verdict.{whose, Ending, Summary, Verdict, first_no, verdict}
-use Rattle.lsp_verdict.specs.Given.{as_given}
-use Rattle.lsp_verdict.specs.declared.verdict.Who.{Who}
-use Rattle.lsp_verdict.specs.Complete.{IsVerdictBy, completed}
-use Rattle.lsp_verdict.specs.Heard.{Heard, heard_events, notes_of, raws_of}
-use Rattle.lsp_verdict.specs.Offences.{IsNoted, Noted, events_of}
-use Rattle.lsp_verdict.specs.Outcome.{IsVerdict, ending, log_terms}
-use Rattle.lsp_verdict.specs.Placed.{Raw, Reads}
-use Rattle.lsp_verdict.specs.declared.completeness.Completeness.{Completeness}
+use Rattle.lsp_replay.specs.Common.{as_given, bad_log_of, Bounds, completed, Completeness, Ending}
+use Rattle.lsp_replay.specs.Common.{ending, Event, events_of, first_no, Format, Heard, heard_events}
+use Rattle.lsp_replay.specs.Common.{IsNoted, IsTold, IsVerdict, IsVerdictBy, log_terms, LogCode}
+use Rattle.lsp_replay.specs.Common.{no_by, no_next, no_of, Noted, notes_of, offence, Reads, rest_of}
+use Rattle.lsp_replay.specs.Common.{rule_of, Summary, summary, Tail, Terms, Who, whose, yes}
+use Rattle.lsp_verdict.specs.Verdict.{Verdict, verdict}
+use Rattle.lsp_verdict.specs.Heard.{raws_of}
+use Rattle.lsp_verdict.specs.Placed.{Raw}
 use Rattle.lsp_verdict.specs.declared.completeness.Completeness.TheVariants.{Ignored, Required}
 use Rattle.lsp_verdict.proofs.Completing.{completed_other}
 use Rattle.lsp_verdict.proofs.Finding.{map_some}
 use Rattle.lsp_verdict.proofs.Verdicts.{no_found}
-use Rattle.lsp_docs.specs.Documents.{Terms}
-use Rattle.lsp_log.specs.declared.fault.LogCode.{LogCode}
 use Rattle.lsp_log.specs.Log.{Record}
-use Rattle.lsp_frame.specs.Bounds.{Bounds}
-use Rattle.lsp_frame.specs.declared.format.Format.{Format}
-use Rattle.lsp_replay.specs.Run.{IsTold, Tail}
-use Rattle.lsp_replay.specs.Telling.{no_of, rule_of}
 use Rattle.lsp_replay.proofs.AllHeard.{no_is}
 use Rattle.lsp_replay.proofs.Seeing.{events-join}
 use Rattle.lsp_judge.specs.ShownLog.{OneShown, SomeShown}

@@ -2,33 +2,29 @@
 use Rattle.std.proofs.Common.{◌≡◌, ℕ, List, [], ◌∷◌, ◌++◌, Option, Some, None, IsSome, Ok, Err}
 use Rattle.std.proofs.Common.{refl, sym, ap, subst, ◌∙◌, append_assoc, append-nil}
 use Rattle.std.specs.List.{flat_map}
-use Rattle.lsp_frame.specs.Bounds.{Bounds, IsInRange}
+use Rattle.lsp_replay.specs.Common.{after_failure, as_given, Bounds, Counts, first_line, Format}
+use Rattle.lsp_replay.specs.Common.{format_or_one, IsFinal, IsInRange, IsLog, IsLogOf, IsVerdict}
+use Rattle.lsp_replay.specs.Common.{log_terms, LogCode, Offends, OfRead, ports, RunFault, spelling}
+use Rattle.lsp_replay.specs.Common.{Told, Took, verdict_view}
 use Rattle.lsp_frame.specs.Sink.{Wrote}
-use Rattle.lsp_frame.specs.Told.{Told, Took, after_failure}
-use Rattle.lsp_frame.specs.declared.format.Format.{Format}
 use Rattle.lsp_frame.specs.declared.format.Format.TheVariants.{Two}
 use Rattle.lsp_session.specs.State as session
 use Rattle.lsp_docs.specs.State as docs
-use Rattle.lsp_log.specs.Log.{Record, spelling, IsLog, first_line}
+use Rattle.lsp_log.specs.Log.{Record}
 use Rattle.lsp_log.specs.Reader.{KeepsFormat}
-use Rattle.lsp_log.specs.declared.fault.LogCode.{LogCode}
-use Rattle.lsp_replay.specs.LogEvents.{Ended, IsIdle, IsLogOf, IsNext, flaw_of}
+use Rattle.lsp_replay.specs.LogEvents.{Ended, IsIdle, IsNext, flaw_of}
 use Rattle.lsp_replay.specs.Streams as frames
 use Rattle.lsp_replay.specs.declared.log_events.End.{End}
 use Rattle.lsp_replay.specs.declared.log_events.Entry.{Entry}
 use Rattle.lsp_replay.specs.declared.log_events.LogEvents.{LogEvents}
 use Rattle.lsp_replay.proofs.Pulling.{first_format, known_record, log_of}
 use Rattle.lsp_verdict.specs.Runs as entries
-use Rattle.lsp_verdict.specs.Runs.{HasFirst, IsKnown, OfRead, ports}
-use Rattle.lsp_verdict.specs.Given.{verdict_view, as_given}
-use Rattle.lsp_verdict.specs.Outcome.{IsFinal, IsVerdict, Offends, format_or_one, log_terms}
+use Rattle.lsp_verdict.specs.Runs.{HasFirst, IsKnown}
 use Rattle.lsp_verdict.specs.Placed.{Raw}
 use Rattle.lsp_verdict.specs.Upgraded.{upgraded, AreAccepted, HasAccepted, IsUpgraded}
 use Rattle.lsp_verdict.specs.Upgraded.{BeginsUpgraded}
 use Rattle.lsp_verdict.specs.Verdict.{Verdict}
-use Rattle.lsp_verdict.specs.declared.counts.Counts.{Counts}
 use Rattle.lsp_verdict.specs.declared.outcome.Outcome.TheVariants.{Judged}
-use Rattle.lsp_verdict.specs.declared.outcome.RunFault.{RunFault}
 use Rattle.lsp_verdict.specs.declared.outcome.RunFault.TheVariants as faults
 use Rattle.lsp_verdict.specs.declared.verdict.Verdict as code
 use Rattle.lsp_verdict.proofs.Entries.{is_first}

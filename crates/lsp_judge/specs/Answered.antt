@@ -1,18 +1,13 @@
 -- What is answered on records and on a log, in plain words.
 use Rattle.std.specs.Prelude.{◌≡◌, ℕ, List, Option, None}
-use Rattle.lsp_frame.specs.Bounds.{Bounds}
-use Rattle.lsp_frame.specs.declared.format.Format.{Format}
+use Rattle.lsp_replay.specs.Common.{as_given, Bounds, Event, Format, format_or_one, IsLog}
+use Rattle.lsp_replay.specs.Common.{IsSession, joined, summary, terms_of, yes}
 use Rattle.lsp_types.specs.declared.side.Side.TheVariants.{Editor, Server}
-use Rattle.lsp_docs.specs.Documents.{terms_of}
-use Rattle.lsp_log.specs.Log.{Record, IsLog}
+use Rattle.lsp_log.specs.Log.{Record}
 use Rattle.lsp_verdict.specs.Complete.{AreCutShort}
-use Rattle.lsp_verdict.specs.Event.{Event}
-use Rattle.lsp_verdict.specs.Given.{as_given}
 use Rattle.lsp_verdict.specs.Laws.{Names, HasRest107}
 use Rattle.lsp_verdict.specs.Kept.{NothingOffends, AreFrames}
-use Rattle.lsp_verdict.specs.Outcome.{format_or_one}
-use Rattle.lsp_verdict.specs.Placed.{IsSession, joined}
-use Rattle.lsp_verdict.specs.Verdict.{Verdict, yes, summary}
+use Rattle.lsp_verdict.specs.Verdict.{Verdict}
 
 -- ---- No of records, whatever their length: a count past the greatest u64 is given as that
 

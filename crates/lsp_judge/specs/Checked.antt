@@ -3,28 +3,19 @@ use Rattle.std.specs.Prelude.{◌≡◌, ◌⊎◌, ℕ, List, Option, Result, O
 use Rattle.std.specs.Prelude.{Bool, false, codes, if◌then◌else◌}
 use Rattle.std.specs.Io.KnownBytes.{IsAtEnd}
 use Rattle.std.specs.List.{before_first}
-use Rattle.lsp_frame.specs.Bounds.{Bounds}
-use Rattle.lsp_frame.specs.declared.format.Format.{Format}
-use Rattle.lsp_log.specs.declared.fault.LogCode.{LogCode}
-use Rattle.lsp_verdict.specs.Complete.{IsBroughtToEnd, IsComplete, IsCutShort, IsVerdictBy}
-use Rattle.lsp_verdict.specs.Event.{Event}
-use Rattle.lsp_verdict.specs.Given.{verdict_view}
+use Rattle.lsp_replay.specs.Common.{BadLog, Bounds, Completeness, Event, Format, IsVerdictBy}
+use Rattle.lsp_replay.specs.Common.{log_terms, LogCode, Memory, No, Ports, Read, report, RunFault}
+use Rattle.lsp_replay.specs.Common.{verdict_view, Who, Write, Yes}
+use Rattle.lsp_verdict.specs.Complete.{IsBroughtToEnd, IsComplete, IsCutShort}
 use Rattle.lsp_verdict.specs.Laws.{HasFault, Refuses}
 use Rattle.lsp_verdict.specs.Kept.{IsKept}
-use Rattle.lsp_verdict.specs.Outcome.{log_terms}
-use Rattle.lsp_verdict.specs.Runs.{CountsFaults, IsOutput, IsSilent, OfInput, Ports, AppendsFront}
-use Rattle.lsp_verdict.specs.Report.{report}
+use Rattle.lsp_verdict.specs.Runs.{CountsFaults, IsOutput, IsSilent, OfInput, AppendsFront}
 use Rattle.lsp_verdict.specs.Verdict as spec
-use Rattle.lsp_verdict.specs.declared.completeness.Completeness.{Completeness}
 use Rattle.lsp_verdict.specs.declared.completeness.Completeness.TheVariants.{Ignored, Required}
 use Rattle.lsp_verdict.specs.declared.outcome.Outcome.{Outcome}
 use Rattle.lsp_verdict.specs.declared.outcome.Outcome.TheVariants.{Judged}
-use Rattle.lsp_verdict.specs.declared.outcome.RunFault.{RunFault}
-use Rattle.lsp_verdict.specs.declared.outcome.RunFault.TheVariants.{Memory, Read, Write}
 use Rattle.lsp_verdict.specs.declared.verdict.Summary.{Summary}
 use Rattle.lsp_verdict.specs.declared.verdict.Verdict.{Verdict}
-use Rattle.lsp_verdict.specs.declared.verdict.Verdict.TheVariants.{BadLog, No, Yes}
-use Rattle.lsp_verdict.specs.declared.verdict.Who.{Who}
 use Rattle.lsp_judge.specs.Answered.{IsClean}
 
 -- ---- of one log, whether or not its session must be complete

@@ -1,24 +1,19 @@
 -- What a judge answers, and which answers it keeps.
 use Rattle.std.specs.Prelude.{◌≡◌, ◌⊎◌, ℕ, List, Some, None, Result, Ok, IfOk, OnErr}
 use Rattle.std.specs.Result.{IsErr}
-use Rattle.lsp_frame.specs.Bounds.{Bounds}
-use Rattle.lsp_frame.specs.declared.format.Format.{Format}
+use Rattle.lsp_replay.specs.Common.{as_given, Bounds, Completeness, Event, Format, IsFinalBy, No}
+use Rattle.lsp_replay.specs.Common.{verdict_view, Who, Yes}
 use Rattle.lsp_types.specs.declared.memory.Memory.{Memory}
 use Rattle.lsp_log.specs.Log.{Record}
 use Rattle.lsp_judge.specs.Answered.{AreClean, NamesFirst, NamesRest, NamesShort, SaysYes}
 use Rattle.lsp_judge.specs.Checked.{EndsAsDue}
 use Rattle.lsp_judge.specs.Standing.{IfRefused, Stands, State, WasRefused, is_given}
-use Rattle.lsp_verdict.specs.Complete.{AreComplete, IsFinalBy}
-use Rattle.lsp_verdict.specs.Event.{Event}
-use Rattle.lsp_verdict.specs.Given.{as_given, verdict_view}
+use Rattle.lsp_verdict.specs.Complete.{AreComplete}
 use Rattle.lsp_verdict.specs.Kept.{AreKept}
 use Rattle.lsp_verdict.specs.Verdict as spec
-use Rattle.lsp_verdict.specs.declared.completeness.Completeness.{Completeness}
 use Rattle.lsp_verdict.specs.declared.completeness.Completeness.TheVariants.{Ignored, Required}
 use Rattle.lsp_verdict.specs.declared.verdict.Summary.{Summary}
 use Rattle.lsp_verdict.specs.declared.verdict.Verdict.{Verdict}
-use Rattle.lsp_verdict.specs.declared.verdict.Verdict.TheVariants.{No, Yes}
-use Rattle.lsp_verdict.specs.declared.verdict.Who.{Who}
 
 -- **an answer that is kept is given again**, and nothing changes then; what is answered `Is` the
 -- verdict that was given

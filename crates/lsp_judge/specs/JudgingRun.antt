@@ -1,22 +1,13 @@
 -- What is said of a log up to its verdict, and for that.
 use Rattle.std.specs.Prelude.{◌≡◌, ◌||◌, ℕ, List, Option, Some, None, is_some}
-use Rattle.lsp_docs.specs.Documents.{Terms}
+use Rattle.lsp_replay.specs.Common.{completed, Completeness, ending, Event, Heard, heard_events}
+use Rattle.lsp_replay.specs.Common.{IsJudged, Lines, no_of, report, Run, shown_line, Tail, Terms}
 use Rattle.lsp_judge.specs.Checked.{line_for}
 use Rattle.lsp_judge.specs.Objects.{object_for}
 use Rattle.lsp_judge.specs.declared.judging.Form as code
 use Rattle.lsp_judge.specs.declared.judging.Form.TheVariants as forms
-use Rattle.lsp_replay.specs.Lines.{shown_line}
-use Rattle.lsp_replay.specs.Run.{IsJudged, Run, Tail}
-use Rattle.lsp_replay.specs.Telling.{no_of}
-use Rattle.lsp_verdict.specs.Complete.{completed}
-use Rattle.lsp_verdict.specs.Event.{Event}
-use Rattle.lsp_verdict.specs.Heard.{Heard, heard_events}
-use Rattle.lsp_verdict.specs.Outcome.{ending}
-use Rattle.lsp_verdict.specs.Report.{report}
 use Rattle.lsp_verdict.specs.Verdict.{Verdict, verdict}
-use Rattle.lsp_verdict.specs.declared.completeness.Completeness.{Completeness}
 use Rattle.lsp_verdict.specs.declared.completeness.Completeness.TheVariants.{Ignored, Required}
-use Rattle.lsp_verdict.specs.declared.lines.Lines.{Lines}
 
 -- what is said for a verdict: its report; or for one of several logs a line with its name, or an
 -- object with it

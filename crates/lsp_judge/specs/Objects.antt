@@ -1,15 +1,11 @@
 -- What `check --json` answers and writes for one of several logs.
 use Rattle.std.specs.Prelude.{◌==◌, ℕ, List, ◌∷◌, ◌++◌, Result}
 use Rattle.std.specs.List.{after_first}
-use Rattle.lsp_frame.specs.Bounds.{Bounds}
+use Rattle.lsp_replay.specs.Common.{Bounds, Completeness, Ports, report, RunFault}
 use Rattle.lsp_json.specs.Rows.{file_json}
 use Rattle.lsp_judge.specs.Checked.{WritesVerdict, first_line, line_remark}
-use Rattle.lsp_verdict.specs.Report.{report}
-use Rattle.lsp_verdict.specs.Runs.{Ports}
 use Rattle.lsp_verdict.specs.Verdict.{Verdict}
-use Rattle.lsp_verdict.specs.declared.completeness.Completeness.{Completeness}
 use Rattle.lsp_verdict.specs.declared.outcome.Outcome.{Outcome}
-use Rattle.lsp_verdict.specs.declared.outcome.RunFault.{RunFault}
 
 -- the bytes behind the first LF
 abbrev pub other_lines : List ℕ → List ℕ

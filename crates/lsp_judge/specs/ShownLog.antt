@@ -1,11 +1,8 @@
 -- What `show` writes of a log, and what `upgrade` does.
 use Rattle.std.specs.Prelude.{◌≡◌, List, ◌++◌, ℕ, Result}
-use Rattle.lsp_frame.specs.Bounds.{Bounds, IsInRange}
-use Rattle.lsp_verdict.specs.declared.lines.Lines.{Lines}
+use Rattle.lsp_replay.specs.Common.{Bounds, IsInRange, IsVerdict, Lines, Ports, RunFault}
 use Rattle.lsp_verdict.specs.declared.outcome.Outcome.{Outcome}
-use Rattle.lsp_verdict.specs.declared.outcome.RunFault.{RunFault}
-use Rattle.lsp_verdict.specs.Outcome.{IsVerdict}
-use Rattle.lsp_verdict.specs.Runs.{Ports, Judges}
+use Rattle.lsp_verdict.specs.Runs.{Judges}
 use Rattle.lsp_verdict.specs.Shown.{show_of}
 use Rattle.lsp_verdict.specs.Verdict.{Verdict}
 use Rattle.lsp_verdict.specs.Upgraded.{IsUpgraded, BeginsUpgraded}

@@ -2,29 +2,20 @@
 use Rattle.std.specs.Prelude.{◌≡◌, List, [], ◌∷◌, ◌++◌, Option, Some, None, option_and_then, ℕ}
 use Rattle.std.specs.Prelude.{Bool, Result, Ok, Err, IfSome, unwrap_or}
 use Rattle.std.specs.List.{AllZip}
-use Rattle.lsp_frame.specs.Bounds.{Bounds, IsInRange}
-use Rattle.lsp_frame.specs.declared.format.Format.{Format}
+use Rattle.lsp_replay.specs.Common.{as_given, bad_log, bad_log_of, Bounds, Completeness, Counts}
+use Rattle.lsp_replay.specs.Common.{ends_inside, Event, first_end, Follows, Format, IsInRange, no}
+use Rattle.lsp_replay.specs.Common.{no_at, no_next, offence_view, Offends, Reads, summary}
+use Rattle.lsp_replay.specs.Common.{summary_view, Terms, terms_of, Who, yes}
 use Rattle.lsp_session.specs.State as session
 use Rattle.lsp_docs.specs.State as docs
-use Rattle.lsp_docs.specs.Documents.{Terms, terms_of}
 use Rattle.lsp_log.specs.Log.{Record}
-use Rattle.lsp_replay.specs.SessionEnd.{first_end}
-use Rattle.lsp_replay.specs.Standing.{Follows}
 use Rattle.lsp_replay.specs.Streams as frames
 use Rattle.lsp_replay.specs.LogEvents.{flaw_of}
-use Rattle.lsp_replay.specs.Streams.{ends_inside}
 use Rattle.lsp_replay.specs.declared.log_events.End.{End}
 use Rattle.lsp_replay.specs.declared.log_events.LogEvents.{LogEvents}
-use Rattle.lsp_verdict.specs.Event.{Event}
-use Rattle.lsp_verdict.specs.Placed.{Raw, Reads}
-use Rattle.lsp_verdict.specs.declared.counts.Counts.{Counts}
-use Rattle.lsp_verdict.specs.Given.{as_given, offence_view, summary_view}
-use Rattle.lsp_verdict.specs.Verdict.{Verdict, yes, no, bad_log, no_at, bad_log_of, no_next}
-use Rattle.lsp_verdict.specs.Verdict.{summary}
-use Rattle.lsp_verdict.specs.Outcome.{Offends}
-use Rattle.lsp_verdict.specs.declared.completeness.Completeness.{Completeness}
+use Rattle.lsp_verdict.specs.Placed.{Raw}
+use Rattle.lsp_verdict.specs.Verdict.{Verdict}
 use Rattle.lsp_verdict.specs.declared.verdict.Summary as code
-use Rattle.lsp_verdict.specs.declared.verdict.Who.{Who}
 use Rattle.lsp_verdict.specs.declared.verdict.Who.TheVariants as who
 use Rattle.lsp_judge.specs.declared.ruling.Ruling.{Ruling}
 use Rattle.lsp_judge.specs.declared.ruling.Ruling.TheVariants.{No, BadLog, Memory}

@@ -1,8 +1,7 @@
 //! Judges one of several logs, and writes a line.
 ghost use Rattle.std.specs.Prelude.{◌≡◌, ◌++◌, ◌∷◌, [], OnOk, codes, string_bytes};
 ghost use Rattle.lsp_judge.specs.Checked.{CheckedLine, compared_nothing, first_line, line_remark};
-ghost use Rattle.lsp_verdict.specs.Given.{verdict_view};
-ghost use Rattle.lsp_verdict.specs.Runs.{ports};
+ghost use Rattle.lsp_replay.specs.Common.{ports, verdict_view};
 
 use crate::judging::{Form, Judging};
 use lsp_frame::{Limits, Sink, Source};

@@ -1,14 +1,11 @@
 //! The events that a record brings, heard one after another.
 ghost use Rattle.std.specs.Prelude.{◌≡◌, ◌++◌, ◌∷◌, [], List, IfErr, OnOk};
-ghost use Rattle.lsp_docs.specs.Documents.{Terms};
-ghost use Rattle.lsp_frame.specs.Bounds.{Bounds};
-ghost use Rattle.lsp_frame.specs.declared.format.Format.{Format};
+ghost use Rattle.lsp_replay.specs.Common.{AreCounts, Bounds, Event, Follows, Format, record_view};
+ghost use Rattle.lsp_replay.specs.Common.{Terms};
 ghost use Rattle.lsp_log.specs.Log as log;
-ghost use Rattle.lsp_log.specs.Records.{record_view};
-ghost use Rattle.lsp_verdict.specs.Given.{AreCounts, raw_view, whose_raw};
-ghost use Rattle.lsp_verdict.specs.Event.{Event};
+ghost use Rattle.lsp_verdict.specs.Given.{raw_view, whose_raw};
 ghost use Rattle.lsp_verdict.specs.Placed as placed;
-ghost use Rattle.lsp_replay.specs.Standing.{CanWantMemory, Follows, RefusesFor};
+ghost use Rattle.lsp_replay.specs.Standing.{CanWantMemory, RefusesFor};
 ghost use Rattle.lsp_judge.specs.Standing.{IsNoAt, AreHeard, TakesOne, Rules};
 
 use crate::ruling::Ruling;

@@ -1,9 +1,7 @@
 //! What is given where a session ends of which no event offends.
 ghost use Rattle.std.specs.Prelude.{◌≡◌, IfOk, List};
-ghost use Rattle.lsp_replay.specs.Standing.{Follows};
+ghost use Rattle.lsp_replay.specs.Common.{Event, Follows, verdict_view};
 ghost use Rattle.lsp_judge.specs.Standing.{EndIs, closed_by, end_by};
-ghost use Rattle.lsp_verdict.specs.Event.{Event};
-ghost use Rattle.lsp_verdict.specs.Given.{verdict_view};
 
 use crate::ruling::Ruling;
 use lsp_replay::{End, Events, LogEvents, first_end, summary_of};

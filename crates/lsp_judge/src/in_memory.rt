@@ -1,7 +1,6 @@
 //! The verdict on a log that is held in memory.
 ghost use Rattle.std.specs.Prelude.{◌≡◌, IfOk, IfSome, Some, length};
-ghost use Rattle.lsp_verdict.specs.Given.{verdict_view};
-ghost use Rattle.lsp_verdict.specs.Outcome.{IsVerdict};
+ghost use Rattle.lsp_replay.specs.Common.{IsVerdict, verdict_view};
 ghost use Rattle.lsp_verdict.specs.declared.outcome.Outcome.TheVariants.{Judged};
 
 use crate::check::check_held;

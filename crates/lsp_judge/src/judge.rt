@@ -1,18 +1,12 @@
 //! Judges a recorded session record by record.
 ghost use Rattle.std.specs.Prelude.{◌≡◌, ◌++◌, ◌∷◌, [], ℕ, List, Some, None, Ok, IfOk};
 ghost use Rattle.std.specs.Prelude.{OnOk, option_map};
-ghost use Rattle.lsp_docs.specs.Documents.{terms_of};
+ghost use Rattle.lsp_replay.specs.Common.{as_given, ends_inside, Event, Follows, IsFinal};
+ghost use Rattle.lsp_replay.specs.Common.{IsSession, record_view, terms_of, verdict_view};
 ghost use Rattle.lsp_log.specs.Log as log;
-ghost use Rattle.lsp_log.specs.Records.{record_view};
 ghost use Rattle.lsp_judge.specs.Answered.{NamesFirst, NoneOffends};
 ghost use Rattle.lsp_judge.specs.Judging.{AnswersEnd, KeepsAnswer};
-ghost use Rattle.lsp_verdict.specs.Event.{Event};
-ghost use Rattle.lsp_verdict.specs.Given.{verdict_view, as_given};
-ghost use Rattle.lsp_verdict.specs.Outcome.{IsFinal};
-ghost use Rattle.lsp_verdict.specs.Placed.{IsSession};
 ghost use Rattle.lsp_judge.specs.Standing.{EndIs, end_by, Stands, WasRefused, is_given};
-ghost use Rattle.lsp_replay.specs.Standing.{Follows};
-ghost use Rattle.lsp_replay.specs.Streams.{ends_inside};
 ghost use Rattle.lsp_verdict.specs.Verdict as spec;
 
 use crate::contents::hear_record;

@@ -1,9 +1,7 @@
 //! What is said of a log up to its verdict, and for that.
 ghost use Rattle.std.specs.Prelude.{◌≡◌, ◌++◌, None, OnOk, string_bytes};
 ghost use Rattle.lsp_judge.specs.JudgingRun.{JudgingAsked, due_for, form_view, judging_run};
-ghost use Rattle.lsp_verdict.specs.Given.{verdict_view};
-ghost use Rattle.lsp_verdict.specs.Heard.{heard_events};
-ghost use Rattle.lsp_verdict.specs.Verdict.{first_no};
+ghost use Rattle.lsp_replay.specs.Common.{first_no, heard_events, verdict_view};
 
 use crate::check_line::{line_remark, push_line};
 use crate::check_object::push_object;

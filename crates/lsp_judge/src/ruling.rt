@@ -1,8 +1,6 @@
 //! The final answer of a judge.
 ghost use Rattle.std.specs.Prelude.{◌≡◌, List, IfOk, OnErr, Some};
-ghost use Rattle.lsp_verdict.specs.Given.{AreCounts, verdict_view, as_given};
-ghost use Rattle.lsp_verdict.specs.Event.{Event};
-ghost use Rattle.lsp_verdict.specs.Verdict.{no_next};
+ghost use Rattle.lsp_replay.specs.Common.{AreCounts, as_given, Event, no_next, verdict_view};
 ghost use Rattle.lsp_judge.specs.Standing.{verdict_in};
 
 use lsp_log::LogCode;

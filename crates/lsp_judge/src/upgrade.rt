@@ -1,8 +1,7 @@
 //! Writes a log again in format 2.
 ghost use Rattle.std.specs.Prelude.{◌≡◌, IfOk};
-ghost use Rattle.lsp_log.specs.Records.{record_view};
+ghost use Rattle.lsp_replay.specs.Common.{ports, record_view};
 ghost use Rattle.lsp_judge.specs.ShownLog.{UpgradesLog};
-ghost use Rattle.lsp_verdict.specs.Runs.{ports};
 
 use crate::contents::hear_record;
 use crate::ending::verdict_at;

@@ -9,14 +9,11 @@ use Rattle.std.proofs.lemmas.Bool.Decides.{nat_tests}
 use Rattle.std.proofs.lemmas.List.{drop_all, drop_at, drop_more, length-take-le, take_all}
 use Rattle.std.proofs.lemmas.Str.{IsUtf8-append, IsUtf8-drop, IsUtf8-nil, IsUtf8-take, chars-append}
 use Rattle.std.proofs.lemmas.Str.{chars-nil}
-use Rattle.lsp_types.specs.declared.position.Encoding.{Encoding}
-use Rattle.lsp_types.specs.declared.position.Encoding.TheVariants.{Utf32}
-use Rattle.lsp_text.specs.Edits.{Edit}
+use Rattle.lsp_trail.specs.Common.{Edit, Encoding, Text, Utf32}
 use Rattle.lsp_text.specs.Offsets.{IsOffset}
 use Rattle.lsp_text.proofs.Denoting.{IsBefore, place_in_line-sound}
 use Rattle.lsp_text.proofs.Splices.{chars-cut}
 use Rattle.lsp_text.proofs.Widths.{IsFront, is_front, units-utf32}
-use Rattle.lsp_docs.specs.Calls.{Text}
 use Rattle.lsp_notes.specs.AtOnce.{IsPut, IsSplit, Splice, and_splices, back_of, front_of, in_order}
 use Rattle.lsp_notes.specs.AtOnce.{is_first, is_next, is_text, made_from, makes}
 use Rattle.lsp_notes.specs.AtOnce.{splice_of, splice_view, splice_with, splices_of, splices_view}

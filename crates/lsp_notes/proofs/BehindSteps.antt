@@ -3,19 +3,12 @@ use Rattle.std.specs.Prelude.{if◌then◌else◌, unwrap_or}
 use Rattle.std.proofs.Common.{◌≡◌, ℕ, Bool, true, false, List, [], ◌∷◌, ◌++◌, Option, Some, None}
 use Rattle.std.proofs.Common.{refl, sym, ap, subst, ◌∙◌}
 use Rattle.std.specs.Str.{bytes_eq}
-use Rattle.lsp_docs.specs.Calls.{Call, uri_of}
-use Rattle.lsp_docs.specs.Documents.{Terms}
+use Rattle.lsp_trail.specs.Common.{Call, calls, Counts, each_of, Heard, heard_events, Holds}
+use Rattle.lsp_trail.specs.Common.{is_reopened, kept_before, kept_of, last_or, Raw, rule_of}
+use Rattle.lsp_trail.specs.Common.{said_at, Stood, Terms, uri_of}
 use Rattle.lsp_docs.specs.State as docs
 use Rattle.lsp_session.specs.State as session
-use Rattle.lsp_replay.specs.Standing.{Holds}
-use Rattle.lsp_replay.specs.Telling.{Stood, kept_before, rule_of}
 use Rattle.lsp_replay.proofs.Seeing.{events-push}
-use Rattle.lsp_verdict.specs.Event.{calls}
-use Rattle.lsp_verdict.specs.Heard.{Heard, heard_events}
-use Rattle.lsp_verdict.specs.LookBack.{each_of}
-use Rattle.lsp_verdict.specs.Offences.{is_reopened, kept_of, last_or, said_at}
-use Rattle.lsp_verdict.specs.Placed.{Raw}
-use Rattle.lsp_verdict.specs.declared.counts.Counts.{Counts}
 use Rattle.lsp_verdict.proofs.LookBackLemmas.{each_of-snoc}
 use Rattle.lsp_verdict.proofs.Offences.Steps.{kept-refused, last_behind}
 use Rattle.lsp_notes.specs.Behind.{AreBehind, PutsBehind, behind_by, is_among, is_behind}

@@ -6,12 +6,8 @@ use Rattle.std.proofs.Common.{◌≡◌, ℕ, Bool, true, false, List, [], ◌�
 use Rattle.std.proofs.Common.{refl, sym, ap, ◌∙◌, append_assoc}
 use Rattle.std.specs.List.{cons_option, filter_map}
 use Rattle.serde_json.specs.Data.{Data}
-use Rattle.lsp_replay.specs.declared.heard.EventPlace.{EventPlace}
-use Rattle.lsp_rpc.specs.Ident.{id_view}
-use Rattle.lsp_rpc.specs.Message.{Reply, response}
-use Rattle.lsp_rpc.specs.Outline.{outline}
-use Rattle.lsp_rpc.specs.Shape.{member}
-use Rattle.lsp_rpc.specs.View.{message_view}
+use Rattle.lsp_trail.specs.Common.{EventPlace, id_view, member, message_view, outline, Reply}
+use Rattle.lsp_trail.specs.Common.{response}
 use Rattle.lsp_rpc.specs.declared.message.Answer.{Answer}
 use Rattle.lsp_rpc.specs.declared.message.Answer.TheVariants as answers
 use Rattle.lsp_rpc.specs.declared.message.Id.{Id}

@@ -12,21 +12,13 @@ use Rattle.std.proofs.lemmas.List.{drop_more, map-append}
 use Rattle.std.proofs.lemmas.List.Elements.{filter-append, filter_map-append}
 use Rattle.serde_json.specs.View.{items_view}
 use Rattle.serde_json.specs.declared.value.Value.{Value}
-use Rattle.lsp_docs.specs.Calls.{Text}
-use Rattle.lsp_docs.specs.Documents.{Version}
-use Rattle.lsp_docs.specs.Rules.{text_at}
-use Rattle.lsp_types.specs.declared.change.Change.{Change}
-use Rattle.lsp_types.specs.declared.position.Encoding.{Encoding}
-use Rattle.lsp_types.specs.declared.position.Position.{Position}
-use Rattle.lsp_text.specs.Changes.{edits_of}
-use Rattle.lsp_lined.specs.Counted.{Counted}
-use Rattle.lsp_text.specs.Findings.{fit_at, fit_in, text_extent}
+use Rattle.lsp_trail.specs.Common.{Change, Counted, edits_of, edits_size, Encoding, Extent}
+use Rattle.lsp_trail.specs.Common.{Position, Text, text_at, text_extent, Version}
+use Rattle.lsp_text.specs.Findings.{fit_at, fit_in}
 use Rattle.lsp_text.specs.Places.{place_of}
-use Rattle.lsp_text.specs.declared.findings.Extent.{Extent}
 use Rattle.lsp_text.specs.declared.findings.Fit.{Fit}
 use Rattle.lsp_text.specs.declared.findings.Fit.TheVariants.{Nowhere, Past, Within}
 use Rattle.lsp_notes.specs.LateEdits.{are_held, most_size}
-use Rattle.lsp_trail.specs.SentEdits.{edits_size}
 use Rattle.lsp_notes.specs.TextEdits.{count_of}
 use Rattle.lsp_notes.specs.TextsSince.{contents, is_outside, is_past, not_below, numbers_of}
 use Rattle.lsp_notes.specs.TextsSince.{texts_at, texts_in}

@@ -6,25 +6,18 @@ use Rattle.std.specs.List.{cons_option}
 use Rattle.std.proofs.Common.{◌≡◌, ◌<◌, ◌+◌, ℕ, Bool, true, false, List, [], ◌∷◌, ◌++◌, Option, Some, None}
 use Rattle.std.proofs.Common.{refl, sym, ap, ◌∙◌, append-nil, append_assoc, arith}
 use Rattle.serde_json.specs.declared.value.Value.{Value}
-use Rattle.lsp_docs.specs.Documents.{Terms}
-use Rattle.lsp_rpc.specs.Ident.{Ident}
-use Rattle.lsp_rpc.specs.Message.{Message, request, notification, response, Reply, result, error}
-use Rattle.lsp_rpc.specs.Outline.{outline}
-use Rattle.lsp_rpc.specs.Shape.{member}
-use Rattle.lsp_rpc.specs.View.{message_view}
+use Rattle.lsp_trail.specs.Common.{Editor, error, Event, EventPlace, Ident, last_ones, member}
+use Rattle.lsp_trail.specs.Common.{Message, message, message_view, notification, outline, params_of}
+use Rattle.lsp_trail.specs.Common.{Reply, request, response, result, Server, Terms, version_named}
+use Rattle.lsp_trail.specs.Common.{Versioned}
 use Rattle.lsp_rpc.specs.declared.message.Answer.{Answer}
 use Rattle.lsp_rpc.specs.declared.message.Answer.TheVariants as answers
 use Rattle.lsp_rpc.specs.declared.message.Id.{Id}
 use Rattle.lsp_rpc.specs.declared.message.Message as lent
 use Rattle.lsp_rpc.specs.declared.message.Message.TheVariants as lents
-use Rattle.lsp_types.specs.declared.side.Side.TheVariants.{Editor, Server}
-use Rattle.lsp_verdict.specs.Event.{Event, message}
-use Rattle.lsp_replay.specs.declared.heard.EventPlace.{EventPlace}
-use Rattle.lsp_outline.specs.Versions.{Versioned}
 use Rattle.lsp_notes.specs.EditRequests.{is_formatting, is_rename, request_of}
-use Rattle.lsp_trail.specs.History.{last_ones, with_room}
+use Rattle.lsp_trail.specs.History.{with_room}
 use Rattle.lsp_notes.specs.LateEdits.{HoldsLate, LateAnswer, late_view, most_late}
-use Rattle.lsp_trail.specs.Naming.{params_of, version_named}
 use Rattle.lsp_notes.specs.Refusals.{is_request}
 use Rattle.lsp_notes.specs.Requests.{Request, request_at}
 use Rattle.lsp_notes.specs.ServerEdits.{edited_in_message, in_diagnostics, answered, edit_in}

@@ -2,20 +2,13 @@
 use Rattle.std.specs.Prelude.{◌&&◌, if◌then◌else◌, not, option_and_then}
 use Rattle.std.proofs.Common.{◌≡◌, ℕ, ℤ, Bool, true, false, List, Option, Some, None, refl, sym, ap}
 use Rattle.std.proofs.Common.{◌∙◌}
-use Rattle.lsp_docs.specs.Calls.{Bytes, Call, Text}
-use Rattle.lsp_docs.specs.Documents.{Terms, held}
-use Rattle.lsp_docs.specs.Snapshots.{kept}
-use Rattle.lsp_replay.specs.declared.heard.EventPlace.{EventPlace}
-use Rattle.lsp_text.specs.Edits.{Edit}
-use Rattle.lsp_types.specs.declared.position.Encoding.{Encoding}
-use Rattle.lsp_verdict.specs.Event.{Event}
-use Rattle.lsp_trail.specs.History.{last_that}
+use Rattle.lsp_trail.specs.Common.{Bytes, Call, closing_of, closings, Edit, Encoding, Event}
+use Rattle.lsp_trail.specs.Common.{EventPlace, held, kept, last_setter, last_that, recent, steps}
+use Rattle.lsp_trail.specs.Common.{Terms, Text}
 use Rattle.lsp_notes.specs.AtOnce.{makes}
 use Rattle.lsp_notes.specs.LateEdits.{LateAnswer, are_held, has_changed, if_late, is_since}
 use Rattle.lsp_notes.specs.LateEdits.{late_answer, late_words, made_late, makes_late}
 use Rattle.lsp_notes.specs.LateEdits.{words_if_late, words_since}
-use Rattle.lsp_trail.specs.Marking.{last_setter, recent, steps}
-use Rattle.lsp_trail.specs.Openings.{closing_of, closings}
 use Rattle.lsp_notes.specs.ServerEdits.{if_unsent}
 use Rattle.lsp_notes.specs.TextsSince.{version_at}
 use Rattle.lsp_notes.specs.Unsent.{is_never, is_unsent, is_unset, unsent_words}

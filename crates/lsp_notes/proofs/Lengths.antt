@@ -12,8 +12,7 @@ use Rattle.std.proofs.lemmas.Slice.Eq.{bytes_eq-Decides}
 use Rattle.lsp_text.specs.Lines.{lines_of}
 use Rattle.lsp_text.specs.Places.{place_at, place_of}
 use Rattle.lsp_text.proofs.Positions.{slice_get-past, text_of-lines_of}
-use Rattle.lsp_types.specs.declared.position.Encoding.{Encoding}
-use Rattle.lsp_types.specs.declared.position.Position.{Position}
+use Rattle.lsp_trail.specs.Common.{Encoding, Position}
 use Rattle.lsp_notes.specs.AtOnce.{Splice, back_of, front_of, is_next, is_text, is_within, length_from}
 use Rattle.lsp_notes.specs.AtOnce.{made_from}
 use Rattle.lsp_notes.specs.declared.texts_since.Stretch.{Stretch}

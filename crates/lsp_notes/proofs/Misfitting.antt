@@ -4,35 +4,27 @@ use Rattle.std.specs.Prelude.{option_map, option_and_then, if◌then◌else◌, 
 use Rattle.std.specs.List.{cons_option}
 use Rattle.std.proofs.Common.{◌≡◌, ℕ, Bool, true, false, List, [], ◌∷◌, ◌++◌, Option, Some, None}
 use Rattle.std.proofs.Common.{refl, sym, ap, ◌∙◌, append-nil, subst, Result, Ok, Err, arith}
-use Rattle.lsp_docs.specs.Calls.{Call, opens, changes, closes, saves, shows, Text}
-use Rattle.lsp_docs.specs.Documents.{Terms, Version}
+use Rattle.lsp_trail.specs.Common.{applied, Call, call_view, Change, changes, closes, Edit}
+use Rattle.lsp_trail.specs.Common.{Encoding, Event, EventPlace, Findings, findings, Heard}
+use Rattle.lsp_trail.specs.Common.{heard_events, kept_as, kept_before, opens, place_of, rule_of}
+use Rattle.lsp_trail.specs.Common.{saves, shows, SyncKind, Terms, Text, Version}
 use Rattle.lsp_docs.specs.Rules.{change_rule, text_rule}
-use Rattle.lsp_docs.specs.Taken.{call_view, found_on, took_by, took_found}
+use Rattle.lsp_docs.specs.Taken.{found_on, took_by, took_found}
 use Rattle.lsp_docs.specs.declared.call.Call as code
 use Rattle.lsp_docs.specs.declared.call.Call.TheVariants.{Opens, Changes, Closes, Saves, Shows}
 use Rattle.lsp_docs.specs.declared.call.Took.{Took}
 use Rattle.lsp_docs.specs.declared.call.Took.TheVariants.{Done, Changed}
 use Rattle.lsp_facts.proofs.DocumentRules.{not_this, same_number, text_breaks}
 use Rattle.lsp_facts.proofs.FailingChanges.{fails_by}
-use Rattle.lsp_text.specs.Edits.{Edit, applied}
-use Rattle.lsp_text.specs.Findings.{findings, nothing}
-use Rattle.lsp_text.specs.declared.findings.Findings.{Findings}
-use Rattle.lsp_types.specs.declared.change.Change.{Change}
-use Rattle.lsp_types.specs.declared.change.SyncKind.{SyncKind}
-use Rattle.lsp_types.specs.declared.position.Encoding.{Encoding}
-use Rattle.lsp_verdict.specs.Event.{Event}
-use Rattle.lsp_verdict.specs.Heard.{Heard, heard_events}
-use Rattle.lsp_replay.specs.Lines.{place_of}
-use Rattle.lsp_replay.specs.Telling.{kept_before, rule_of, took_of}
+use Rattle.lsp_text.specs.Findings.{nothing}
+use Rattle.lsp_replay.specs.Telling.{took_of}
 use Rattle.lsp_replay.proofs.Seeing.{events-push}
-use Rattle.lsp_replay.specs.declared.heard.EventPlace.{EventPlace}
 use Rattle.lsp_notes.specs.DocumentNotes.{notes_view, with_note}
 use Rattle.lsp_notes.specs.Misfits.{AreMisfits, Found, MisfitsBy, call_found, event_found, finds}
 use Rattle.lsp_notes.specs.Misfits.{findings_of, found_kept, found_refuted, kept_found}
 use Rattle.lsp_notes.specs.Misfits.{past_end_in, range_length_in}
 use Rattle.lsp_notes.specs.declared.misfits.Misfits.{Misfits}
 use Rattle.lsp_notes.proofs.DocumentNoting.{first_notes_more}
-use Rattle.lsp_trail.specs.History.{kept_as}
 use Rattle.lsp_verdict.proofs.LookBackLemmas.{each_of-snoc}
 
 -- ---- one finding more, or none

@@ -11,10 +11,8 @@ use Rattle.std.proofs.lemmas.Bool.Decides.{eqb_tells}
 use Rattle.json.specs.Print.{escape, escape_byte, quoted}
 use Rattle.json.proofs.Printed.Strings.{escape_byte_plain}
 use Rattle.lsp_facts.specs.Fact.{Fact, place_words}
-use Rattle.lsp_replay.specs.declared.heard.EventPlace.{EventPlace}
-use Rattle.lsp_verdict.specs.LookBack.{each_from}
-use Rattle.lsp_verdict.specs.Report.{line, who_name}
-use Rattle.lsp_verdict.specs.declared.verdict.Who.{Who}
+use Rattle.lsp_trail.specs.Common.{each_from, EventPlace, line, Who}
+use Rattle.lsp_verdict.specs.Report.{who_name}
 use Rattle.lsp_verdict.specs.declared.verdict.Who.TheVariants as who
 use Rattle.lsp_notes.specs.AllNotes.{AreNotes, IsNote, beyond, has_feed}
 use Rattle.lsp_notes.specs.DocumentNotes.{DocumentNote, document_line, first_notes, if_first}

@@ -10,42 +10,37 @@ use Rattle.std.proofs.lemmas.Bool.{or_parts}
 use Rattle.std.proofs.lemmas.List.{length-append, length-drop, length-map, length-take, map-append}
 use Rattle.std.proofs.lemmas.List.Elements.{filter_map-append}
 use Rattle.std.proofs.lemmas.List.Folds.{list_any-append}
-use Rattle.lsp_docs.specs.Documents.{Terms}
+use Rattle.lsp_trail.specs.Common.{abrupt_exit, each_from, each_of, Event, EventPlace, Exited}
+use Rattle.lsp_trail.specs.Common.{first_from, first_of, Heard, heard_events, is_shutdown, kept_as}
+use Rattle.lsp_trail.specs.Common.{last_or, Misused, misuses, Numbered, numbered, OnDocument, phase}
+use Rattle.lsp_trail.specs.Common.{renamed, rule_of, same_phase, Sent, sents, Terms, Verdict}
 use Rattle.lsp_facts.specs.Fact.{Fact}
-use Rattle.lsp_replay.specs.Telling.{rule_of}
-use Rattle.lsp_replay.specs.declared.heard.EventPlace.{EventPlace}
 use Rattle.lsp_replay.proofs.Seeing.{events-push}
-use Rattle.lsp_session.specs.Handshake.{Settled, first_settled, is_done, is_waiting, phase, was_sent}
+use Rattle.lsp_session.specs.Handshake.{Settled, first_settled, is_done, is_waiting, was_sent}
 use Rattle.lsp_session.specs.Negotiation.{agreed_at}
-use Rattle.lsp_session.specs.Sent.{Sent, is_exit, is_initialized, is_shutdown, sends}
+use Rattle.lsp_session.specs.Sent.{is_exit, is_initialized, sends}
 use Rattle.lsp_session.proofs.Steps.{first_settled_from-push}
 use Rattle.lsp_session.specs.declared.phase.Phase.{Phase}
 use Rattle.lsp_session.specs.declared.phase.Phase.TheVariants.{Fresh, Waiting, Answered, Ready}
-use Rattle.lsp_session.specs.declared.phase.Phase.TheVariants.{Stopping, Exited}
-use Rattle.lsp_verdict.specs.Event.{Event}
-use Rattle.lsp_verdict.specs.Heard.{Heard, heard_events}
-use Rattle.lsp_verdict.specs.LookBack.{each_from, each_of, first_from, first_of}
-use Rattle.lsp_verdict.specs.Offences.{last_or}
-use Rattle.lsp_verdict.specs.Verdict.{Verdict}
+use Rattle.lsp_session.specs.declared.phase.Phase.TheVariants.{Stopping}
 use Rattle.lsp_verdict.proofs.LookBackLemmas.{each_from-append, each_of-snoc, first_of-append}
 use Rattle.lsp_verdict.proofs.Offences.Steps.{last_behind}
 use Rattle.lsp_notes.specs.AllNotes.{asks_shutdown, beyond, counts, exit_along, found_along}
 use Rattle.lsp_notes.specs.AllNotes.{found_more, has_exited, is_broken, is_shutdown_refused, kinds}
 use Rattle.lsp_notes.specs.AllNotes.{notes_at, noticed_along, sound_events, sound_from}
-use Rattle.lsp_trail.specs.Asking.{Numbered, message_kept, numbered, same_phase, sents}
+use Rattle.lsp_trail.specs.Asking.{message_kept}
 use Rattle.lsp_notes.specs.DocumentNotes.{DocumentNote, document_line, first_notes, if_first}
 use Rattle.lsp_notes.specs.DocumentNotes.{most_noted}
-use Rattle.lsp_trail.specs.History.{OnDocument, kept_as}
 use Rattle.lsp_notes.specs.Misfits.{Found, past_end_in, past_ends, range_length_in, range_lengths}
 use Rattle.lsp_notes.specs.Notes.{Noticed, exit_notes, misuse_line, name_notes, name_of, notes_by}
 use Rattle.lsp_notes.specs.Notes.{old_name_notes, other_name, uncompared}
 use Rattle.lsp_notes.specs.Refusals.{refusal_at, refusals}
-use Rattle.lsp_trail.specs.Renames.{renamed, renamed_at}
+use Rattle.lsp_trail.specs.Renames.{renamed_at}
 use Rattle.lsp_notes.specs.ServerEdits.{all_noted, flat_from, late_at, lates, noted_at}
 use Rattle.lsp_notes.specs.ServerEdits.{outside_note, outsides, overlap_note, overlaps}
 use Rattle.lsp_notes.specs.ServerEdits.{unsent_note, unsents}
-use Rattle.lsp_trail.specs.SessionNotes.{Misused, abrupt, abrupt_by, abrupt_exit, is_abrupt}
-use Rattle.lsp_trail.specs.SessionNotes.{misuse_at, misuses, misuses_after, older_in, with_misuse}
+use Rattle.lsp_trail.specs.SessionNotes.{abrupt, abrupt_by, is_abrupt}
+use Rattle.lsp_trail.specs.SessionNotes.{misuse_at, misuses_after, older_in, with_misuse}
 use Rattle.lsp_trail.specs.SessionNotes.{has_method}
 use Rattle.lsp_notes.specs.Spellings.{spelling_at, spellings}
 use Rattle.lsp_notes.proofs.NotedSteps.{all_added, found_along-push, joined, refused-push}

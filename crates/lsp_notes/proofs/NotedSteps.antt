@@ -8,21 +8,15 @@ use Rattle.std.proofs.Common.{◌≡◌, ℕ, Bool, true, false, List, [], ◌�
 use Rattle.std.proofs.Common.{refl, sym, ap, subst, ◌∙◌, append_assoc, append-nil}
 use Rattle.std.proofs.lemmas.List.{length-map}
 use Rattle.std.proofs.Math.Bool.{or-true}
-use Rattle.lsp_docs.specs.Documents.{Terms}
+use Rattle.lsp_trail.specs.Common.{act_view, each_of, Event, EventPlace, fault, first_from}
+use Rattle.lsp_trail.specs.Common.{first_of, Heard, heard_events, is_shutdown, kept_before}
+use Rattle.lsp_trail.specs.Common.{last_ones, message, on_view, place_of, rule_of, said_at, Sent}
+use Rattle.lsp_trail.specs.Common.{sent_of, snapshot, Terms}
 use Rattle.lsp_facts.specs.Fact.{Fact}
-use Rattle.lsp_replay.specs.Lines.{place_of}
-use Rattle.lsp_replay.specs.Telling.{kept_before, rule_of}
-use Rattle.lsp_replay.specs.declared.heard.EventPlace.{EventPlace}
 use Rattle.lsp_replay.proofs.Seeing.{events-push}
-use Rattle.lsp_rpc.specs.View.{act_view}
 use Rattle.lsp_rpc.specs.declared.act.Act as code
 use Rattle.lsp_rpc.specs.declared.act.Act.TheVariants as acts
-use Rattle.lsp_session.specs.Sent.{Sent, is_shutdown}
 use Rattle.lsp_types.specs.declared.rules.TheConstants as rules
-use Rattle.lsp_verdict.specs.Event.{Event, fault, message, sent_of, snapshot}
-use Rattle.lsp_verdict.specs.Heard.{Heard, heard_events}
-use Rattle.lsp_verdict.specs.LookBack.{each_of, first_from, first_of}
-use Rattle.lsp_verdict.specs.Offences.{said_at}
 use Rattle.lsp_verdict.proofs.LookBackLemmas.{each_of-snoc, first_of-snoc}
 use Rattle.lsp_notes.specs.AllNotes.{asks_shutdown, can_be_made, found_along, found_at, found_more}
 use Rattle.lsp_notes.specs.AllNotes.{has_exited, is_shutdown_refused, one, is_broken}
@@ -30,11 +24,9 @@ use Rattle.lsp_notes.specs.AllNotes.{refused_shutdown, sound_events, sound_from}
 use Rattle.lsp_notes.specs.Behind.{is_on_behind}
 use Rattle.lsp_notes.specs.DocumentNotes.{DocumentNote, document_line, first_notes}
 use Rattle.lsp_notes.specs.DocumentNotes.{note_view, notes_view}
-use Rattle.lsp_trail.specs.History.{last_ones}
 use Rattle.lsp_notes.specs.MessageNotes.{AreNoted, served_with}
 use Rattle.lsp_notes.specs.Misfits.{Found, event_found, found_refuted, kept_found}
 use Rattle.lsp_notes.specs.Notes.{exit_notes, name_notes, old_name_notes}
-use Rattle.lsp_trail.specs.Openings.{on_view}
 use Rattle.lsp_notes.specs.Refusals.{AreRefusals, event_request, most_requests, refusal_at}
 use Rattle.lsp_notes.specs.Refusals.{refusal_by}
 use Rattle.lsp_notes.specs.ServerEdits.{AreServerEdits}

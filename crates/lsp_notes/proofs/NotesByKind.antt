@@ -5,27 +5,18 @@ use Rattle.std.specs.Prelude.{codes, decimal, is_some, option_and_then, option_m
 use Rattle.std.specs.Fmt.{signed_decimal}
 use Rattle.std.specs.List.{filter_map, flat_map}
 use Rattle.json.specs.Print.{quoted}
-use Rattle.lsp_docs.specs.Calls.{Bytes, Call, changes, closes, opens, saves, shows}
-use Rattle.lsp_docs.specs.Documents.{Terms, held}
-use Rattle.lsp_docs.specs.Snapshots.{kept}
+use Rattle.lsp_trail.specs.Common.{bad_log, Bytes, Call, changes, closes, each_from, Encoding}
+use Rattle.lsp_trail.specs.Common.{encoding_name, Event, EventPlace, Extent, Heard, heard_events}
+use Rattle.lsp_trail.specs.Common.{held, kept, kept_of, last_setter, last_that, line, Lines}
+use Rattle.lsp_trail.specs.Common.{Misused, misuses, no, numbered, on_document, OnDocument, opens}
+use Rattle.lsp_trail.specs.Common.{place_of, Position, recent, renamed, rule_at, said_at, saves}
+use Rattle.lsp_trail.specs.Common.{sent_of, shows, steps, Terms, Units, Utf16, Utf32, Utf8, Verdict}
+use Rattle.lsp_trail.specs.Common.{yes}
 use Rattle.lsp_facts.specs.Fact.{Fact, place_words, position_words, spaced}
-use Rattle.lsp_replay.specs.declared.heard.EventPlace.{EventPlace}
-use Rattle.lsp_text.specs.declared.findings.Extent.{Extent}
-use Rattle.lsp_text.specs.declared.findings.Extent.TheVariants.{Lines, Units}
 use Rattle.lsp_text.specs.declared.findings.OtherLength.{OtherLength}
 use Rattle.lsp_text.specs.declared.findings.PastEnd.{PastEnd}
-use Rattle.lsp_types.specs.declared.position.Encoding.{Encoding}
-use Rattle.lsp_types.specs.declared.position.Encoding.TheVariants.{Utf8, Utf16, Utf32}
-use Rattle.lsp_types.specs.declared.position.Position.{Position}
-use Rattle.lsp_replay.specs.Lines.{place_of}
-use Rattle.lsp_verdict.specs.Event.{Event, sent_of}
-use Rattle.lsp_verdict.specs.Heard.{Heard, heard_events}
-use Rattle.lsp_verdict.specs.LookBack.{each_from}
-use Rattle.lsp_verdict.specs.Report.{encoding_name, line}
-use Rattle.lsp_verdict.specs.Verdict.{Verdict, bad_log, no, yes}
 use Rattle.lsp_notes.specs.AllNotes.{AreNotes, IsNote, kinds, noticed_along, counts, exit_along}
 use Rattle.lsp_notes.specs.AllNotes.{found_along, notes_at, sound_events}
-use Rattle.lsp_trail.specs.Asking.{numbered}
 use Rattle.lsp_notes.specs.DocumentNotes.{DocumentNote, document_note, first_notes}
 use Rattle.lsp_notes.specs.LateEdits.{LateAnswer, is_since, late_words, made_late, words_if_late}
 use Rattle.lsp_notes.specs.LateEdits.{words_since}
@@ -34,7 +25,6 @@ use Rattle.lsp_notes.specs.Misfits.{past_ends, range_length_in, range_length_wor
 use Rattle.lsp_notes.specs.Misfits.{Found, fitting}
 use Rattle.lsp_notes.specs.Notes.{exit_notes, misuse_key, misuse_line, name_notes, name_of}
 use Rattle.lsp_notes.specs.Notes.{old_name_notes, uncompared, unshown_line}
-use Rattle.lsp_trail.specs.Renames.{renamed}
 use Rattle.lsp_notes.specs.Refusals as refusing
 use Rattle.lsp_notes.specs.Refusals.{refusal_at, refusal_by, refusals, refused_document}
 use Rattle.lsp_notes.specs.Refusals.{refused_words, refuses}
@@ -43,7 +33,6 @@ use Rattle.lsp_notes.specs.ServerEdits.{Edited, all_noted, late_at, late_by, lat
 use Rattle.lsp_notes.specs.ServerEdits.{outside_in, outside_note, outside_words, outsides}
 use Rattle.lsp_notes.specs.ServerEdits.{if_unsent, overlap_in, overlap_note, overlaps, unsent_note}
 use Rattle.lsp_notes.specs.ServerEdits.{unsents, calls_with, encoding_with, last_answers, sight_of}
-use Rattle.lsp_trail.specs.SessionNotes.{Misused, misuses}
 use Rattle.lsp_notes.specs.Spellings.{other_spelling, similar_note, similar_words, spelling_at}
 use Rattle.lsp_notes.specs.Spellings.{spelling_by, spelling_note, spellings, unopened_at}
 use Rattle.lsp_notes.specs.TextsSince.{version_at, first_outside, overlap_each}
@@ -52,9 +41,6 @@ use Rattle.lsp_trail.specs.declared.mark.VersionEvent.{VersionEvent}
 use Rattle.lsp_trail.specs.declared.misuses.Misuse.{Misuse}
 use Rattle.lsp_trail.specs.declared.misuses.Misuse.TheVariants.{AsRequest, AsNotification}
 use Rattle.lsp_trail.specs.declared.misuses.Misuse.TheVariants.{ByEditor, ByServer}
-use Rattle.lsp_trail.specs.History.{OnDocument, last_that, on_document}
-use Rattle.lsp_trail.specs.Marking.{last_setter, recent, steps}
-use Rattle.lsp_verdict.specs.Offences.{kept_of, rule_at, said_at}
 use Rattle.lsp_notes.proofs.NoteLines.{AreDue, AreWords, BeginsNote, Holds, IsDue, IsWord, begins}
 use Rattle.lsp_notes.proofs.NoteLines.{decimal_word, due_each, due_filter, due_first, due_flat}
 use Rattle.lsp_notes.proofs.NoteLines.{due_lines, flat_word, holds_each, holds_if, holds_map}

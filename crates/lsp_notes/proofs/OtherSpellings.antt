@@ -6,24 +6,18 @@ use Rattle.std.specs.Str.{bytes_eq}
 use Rattle.std.proofs.Common.{◌≡◌, ℕ, Bool, true, false, List, [], ◌∷◌, ◌++◌, Option, Some, None}
 use Rattle.std.proofs.Common.{refl, sym, ap, ◌∙◌, subst}
 use Rattle.std.proofs.lemmas.List.Folds.{find-append}
-use Rattle.lsp_docs.specs.Calls.{Call, opens, saves}
-use Rattle.lsp_docs.specs.Documents.{Terms, Version, held, revised, versioned}
+use Rattle.lsp_trail.specs.Common.{Call, call_at, calls, each_of, Event, EventPlace, fault, Heard}
+use Rattle.lsp_trail.specs.Common.{heard_events, held, if_unopened, kept_before, kept_of, message}
+use Rattle.lsp_trail.specs.Common.{on_document, OnDocument, opens, place_of, rule_at, rule_of}
+use Rattle.lsp_trail.specs.Common.{saves, sent_of, snapshot, Terms, Version, version_named_at}
+use Rattle.lsp_trail.specs.Common.{Versioned}
+use Rattle.lsp_docs.specs.Documents.{revised, versioned}
 use Rattle.lsp_docs.proofs.HeldSteps.{held-snoc}
-use Rattle.lsp_verdict.specs.Event.{Event, call_at, calls, fault, message, sent_of, snapshot}
-use Rattle.lsp_verdict.specs.Heard.{Heard, heard_events}
-use Rattle.lsp_verdict.specs.LookBack.{each_of}
-use Rattle.lsp_verdict.specs.Offences.{kept_of, rule_at}
 use Rattle.lsp_verdict.proofs.LookBackLemmas.{each_of-snoc}
-use Rattle.lsp_replay.specs.Lines.{place_of}
-use Rattle.lsp_replay.specs.Telling.{kept_before, rule_of}
-use Rattle.lsp_replay.specs.declared.heard.EventPlace.{EventPlace}
 use Rattle.lsp_replay.proofs.Seeing.{events-push}
 use Rattle.lsp_notes.specs.DocumentNotes.{DocumentNote, document_note, first_notes, is_noted}
 use Rattle.lsp_notes.specs.DocumentNotes.{notes_view, with_note}
-use Rattle.lsp_trail.specs.History.{OnDocument, on_document}
-use Rattle.lsp_trail.specs.Naming.{if_unopened, version_named_at}
 use Rattle.lsp_trail.proofs.Saving.{saved_all, saved_unopened}
-use Rattle.lsp_outline.specs.Versions.{Versioned}
 use Rattle.lsp_notes.specs.Spellings.{AreSpellings, HoldsOthers, similar_note}
 use Rattle.lsp_notes.specs.Spellings.{similar_words, spelling_at, spelling_by, spelling_note}
 use Rattle.lsp_notes.specs.Spellings.{unopened_by, unopened_in}

@@ -3,35 +3,20 @@ use Rattle.std.specs.Prelude.{option_and_then, option_map, unwrap_or, is_some, i
 use Rattle.std.specs.List.{cons_option}
 use Rattle.std.proofs.Common.{◌≡◌, ℕ, true, false, List, [], ◌∷◌, ◌++◌, Option, Some, None, refl}
 use Rattle.std.proofs.Common.{sym, ap, ◌∙◌, subst}
-use Rattle.lsp_docs.specs.Calls.{Call}
+use Rattle.lsp_trail.specs.Common.{broken, Call, call_at, content, document_in, each_of, Editor}
+use Rattle.lsp_trail.specs.Common.{encoding, error, Event, EventPlace, fault, Heard, heard_events}
+use Rattle.lsp_trail.specs.Common.{Ident, IsSpoken, kept_before, kept_of, last_ones, Message}
+use Rattle.lsp_trail.specs.Common.{message, message_view, notification, outline, params_of}
+use Rattle.lsp_trail.specs.Common.{place_of, Raw, Reads, request, response, result, rule_at}
+use Rattle.lsp_trail.specs.Common.{rule_of, sent_in, sent_of, Server, show, Side, snapshot, Spoken}
+use Rattle.lsp_trail.specs.Common.{Terms, Utf16, version_named, Versioned}
 use Rattle.serde_json.specs.Data.{Data}
-use Rattle.lsp_docs.specs.Documents.{Terms}
-use Rattle.lsp_rpc.specs.Ident.{Ident}
-use Rattle.lsp_rpc.specs.Message.{Message, request, notification, response, result, error}
-use Rattle.lsp_rpc.specs.Outline.{outline}
 use Rattle.lsp_rpc.specs.Params.{act_at}
-use Rattle.lsp_rpc.specs.View.{message_view}
-use Rattle.lsp_rpc.specs.declared.act.Spoken.{Spoken}
-use Rattle.lsp_session.specs.Negotiation.{encoding, sync_kind}
+use Rattle.lsp_session.specs.Negotiation.{sync_kind}
 use Rattle.lsp_types.specs.declared.change.SyncKind.TheVariants.{Nothing}
-use Rattle.lsp_types.specs.declared.position.Encoding.TheVariants.{Utf16}
-use Rattle.lsp_types.specs.declared.side.Side.{Side}
-use Rattle.lsp_types.specs.declared.side.Side.TheVariants.{Editor, Server}
-use Rattle.lsp_verdict.specs.Event.{Event, call_at, fault, message, sent_in, sent_of, snapshot}
-use Rattle.lsp_verdict.specs.Heard.{Heard, heard_events}
-use Rattle.lsp_verdict.specs.LookBack.{each_of}
-use Rattle.lsp_verdict.specs.Offences.{kept_of, rule_at}
-use Rattle.lsp_verdict.specs.Placed.{Raw, Reads, broken, content, show}
 use Rattle.lsp_verdict.proofs.LookBackLemmas.{each_of-snoc}
-use Rattle.lsp_replay.specs.Lines.{place_of}
-use Rattle.lsp_replay.specs.Telling.{IsSpoken, kept_before, rule_of}
-use Rattle.lsp_replay.specs.declared.heard.EventPlace.{EventPlace}
 use Rattle.lsp_replay.proofs.Seeing.{events-push}
 use Rattle.lsp_notes.specs.DocumentNotes.{DocumentNote, first_notes, notes_view, with_note}
-use Rattle.lsp_outline.specs.Named.{document_in}
-use Rattle.lsp_outline.specs.Versions.{Versioned}
-use Rattle.lsp_trail.specs.History.{last_ones}
-use Rattle.lsp_trail.specs.Naming.{params_of, version_named}
 use Rattle.lsp_notes.specs.Refusals.{AreRefusals, event_request}
 use Rattle.lsp_notes.specs.Refusals.{is_request, most_requests, open_document}
 use Rattle.lsp_notes.specs.Refusals.{refusal_at, refusal_by, refusal_note, refused_document}

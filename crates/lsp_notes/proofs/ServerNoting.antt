@@ -8,44 +8,29 @@ use Rattle.std.proofs.Common.{refl, sym, ap, ◌∙◌, subst, append-nil, appen
 use Rattle.std.proofs.lemmas.List.{map-append, take_more}
 use Rattle.std.proofs.lemmas.List.Elements.{filter_map-append}
 use Rattle.serde_json.specs.Data.{Data}
-use Rattle.lsp_docs.specs.Calls.{Call, opens, changes, closes, saves, shows}
-use Rattle.lsp_docs.specs.Documents.{Terms}
-use Rattle.lsp_docs.specs.Taken.{call_view}
+use Rattle.lsp_trail.specs.Common.{broken, Call, call_at, call_view, Change, changes, closes}
+use Rattle.lsp_trail.specs.Common.{content, each_of, Edit, Editor, Encoding, encoding, Event}
+use Rattle.lsp_trail.specs.Common.{EventPlace, fault, Heard, heard_events, IsSpoken, kept_before}
+use Rattle.lsp_trail.specs.Common.{kept_of, last_ones, last_setter, last_that, Message, message}
+use Rattle.lsp_trail.specs.Common.{notification, on_document, opens, place_of, Raw, Reads, recent}
+use Rattle.lsp_trail.specs.Common.{rule_at, rule_of, said_at, saves, sent_in, sent_of, Server, show}
+use Rattle.lsp_trail.specs.Common.{shows, Side, snapshot, Spoken, steps, SyncKind, Terms, Utf16}
 use Rattle.lsp_docs.specs.declared.call.Call as calling
 use Rattle.lsp_docs.specs.declared.call.Call.TheVariants as saying
-use Rattle.lsp_rpc.specs.Message.{Message, notification}
 use Rattle.lsp_rpc.specs.Params.{act_at}
 use Rattle.lsp_rpc.specs.Reading as rpc
-use Rattle.lsp_rpc.specs.declared.act.Spoken.{Spoken}
 use Rattle.lsp_rpc.specs.declared.message.Answer.TheVariants as answers
-use Rattle.lsp_session.specs.Negotiation.{encoding, sync_kind}
-use Rattle.lsp_types.specs.declared.change.Change.{Change}
-use Rattle.lsp_types.specs.declared.change.SyncKind.{SyncKind}
+use Rattle.lsp_session.specs.Negotiation.{sync_kind}
 use Rattle.lsp_types.specs.declared.change.SyncKind.TheVariants.{Nothing}
-use Rattle.lsp_types.specs.declared.position.Encoding.{Encoding}
-use Rattle.lsp_types.specs.declared.position.Encoding.TheVariants.{Utf16}
-use Rattle.lsp_text.specs.Edits.{Edit}
-use Rattle.lsp_types.specs.declared.side.Side.{Side}
-use Rattle.lsp_types.specs.declared.side.Side.TheVariants.{Editor, Server}
-use Rattle.lsp_verdict.specs.Event.{Event, call_at, fault, message, sent_in, sent_of, snapshot}
-use Rattle.lsp_verdict.specs.Heard.{Heard, heard_events}
-use Rattle.lsp_verdict.specs.LookBack.{each_of}
-use Rattle.lsp_verdict.specs.Offences.{kept_of, rule_at, said_at}
-use Rattle.lsp_verdict.specs.Placed.{Raw, Reads, broken, content, show}
 use Rattle.lsp_verdict.proofs.LookBackLemmas.{each_of-snoc}
-use Rattle.lsp_replay.specs.Lines.{place_of}
-use Rattle.lsp_replay.specs.Telling.{IsSpoken, kept_before, rule_of}
-use Rattle.lsp_replay.specs.declared.heard.EventPlace.{EventPlace}
 use Rattle.lsp_replay.proofs.Seeing.{events-push}
 use Rattle.lsp_outline.specs.Versions.{versioned_at}
 use Rattle.lsp_notes.specs.DocumentNotes.{DocumentNote, document_note, first_notes}
 use Rattle.lsp_notes.specs.DocumentNotes.{is_noted, notes_view, with_note}
 use Rattle.lsp_notes.specs.EditRequests.{edit_requests, event_request, most_requests, request_of}
 use Rattle.lsp_notes.specs.Requests.{Holds, Request, request_view}
-use Rattle.lsp_trail.specs.History.{last_ones, last_that, on_document}
 use Rattle.lsp_notes.specs.LateEdits.{HoldsLate, is_since, lates_view}
 use Rattle.lsp_notes.specs.LateEdits.{most_late, words_if_late, words_since}
-use Rattle.lsp_trail.specs.Marking.{last_setter, recent, steps}
 use Rattle.lsp_trail.specs.Naming.{is_diagnostics}
 use Rattle.lsp_notes.specs.ServerEdits.{AreServerEdits, Edited, NotesBy, all_noted, calls_with}
 use Rattle.lsp_notes.specs.ServerEdits.{edited_at, edited_at_place, edited_by_side}

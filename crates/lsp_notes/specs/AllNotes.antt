@@ -3,21 +3,12 @@ use Rattle.std.specs.Prelude.{◌≡◌, ℕ, List, [], ◌∷◌, ◌++◌, dro
 use Rattle.std.specs.Prelude.{codes, ◌+◌, ◌==◌, ◌&&◌, ◌||◌, not, is_some, if◌then◌else◌, Option}
 use Rattle.std.specs.Prelude.{Some, None}
 use Rattle.std.specs.List.{cons_option}
-use Rattle.lsp_docs.specs.Documents.{Terms}
+use Rattle.lsp_trail.specs.Common.{abrupt_exit, each_of, Event, EventPlace, Exited, fault, first_of}
+use Rattle.lsp_trail.specs.Common.{Heard, heard_events, is_shutdown, kept_before, message, misuses}
+use Rattle.lsp_trail.specs.Common.{numbered, phase, place_of, renamed, rule_of, said_at, same_phase}
+use Rattle.lsp_trail.specs.Common.{sent_in, snapshot, Terms, Verdict}
 use Rattle.lsp_facts.specs.Fact.{Fact, fact_lines}
-use Rattle.lsp_session.specs.Handshake.{phase}
-use Rattle.lsp_session.specs.Sent.{is_shutdown}
-use Rattle.lsp_session.specs.declared.phase.Phase.TheVariants.{Exited}
-use Rattle.lsp_replay.specs.Lines.{place_of}
-use Rattle.lsp_replay.specs.Telling.{kept_before, rule_of}
-use Rattle.lsp_replay.specs.declared.heard.EventPlace.{EventPlace}
 use Rattle.lsp_types.specs.declared.rules.TheConstants as rules
-use Rattle.lsp_verdict.specs.Event.{Event, fault, message, sent_in, snapshot}
-use Rattle.lsp_verdict.specs.Heard.{Heard, heard_events}
-use Rattle.lsp_verdict.specs.LookBack.{each_of, first_of}
-use Rattle.lsp_verdict.specs.Offences.{said_at}
-use Rattle.lsp_verdict.specs.Verdict.{Verdict}
-use Rattle.lsp_trail.specs.Asking.{numbered, same_phase}
 use Rattle.lsp_notes.specs.Behind.{AreBehind, is_on_behind}
 use Rattle.lsp_notes.specs.DocumentNotes.{document_line}
 use Rattle.lsp_notes.specs.MessageNotes.{AreNoted}
@@ -25,8 +16,6 @@ use Rattle.lsp_notes.specs.Misfits.{AreMisfits, Found, event_found, past_ends, r
 use Rattle.lsp_notes.specs.Notes.{Noticed, count_line, exit_notes, misuse_line, name_notes}
 use Rattle.lsp_notes.specs.Notes.{name_of, noticed, notes_by, old_name_notes, uncompared}
 use Rattle.lsp_notes.specs.Notes.{with_exit, with_server}
-use Rattle.lsp_trail.specs.Renames.{renamed}
-use Rattle.lsp_trail.specs.SessionNotes.{abrupt_exit, misuses}
 use Rattle.lsp_notes.specs.declared.along.NoteCounts.{NoteCounts}
 use Rattle.lsp_notes.specs.declared.along.NotesAlong.{NotesAlong}
 

@@ -3,9 +3,7 @@ use Rattle.std.specs.Prelude.{◌≡◌, ◌==◌, ◌&&◌, ◌||◌, ◌+◌, 
 use Rattle.std.specs.Prelude.{[], ◌∷◌, ◌++◌, drop, length, take, if◌then◌else◌, map, Option, Some}
 use Rattle.std.specs.Prelude.{None, option_and_then, option_map}
 use Rattle.std.specs.Str.{bytes_eq, chars, IsUtf8}
-use Rattle.lsp_docs.specs.Calls.{Text}
-use Rattle.lsp_text.specs.Edits.{Edit}
-use Rattle.lsp_types.specs.declared.position.Encoding.{Encoding}
+use Rattle.lsp_trail.specs.Common.{Edit, Encoding, Text}
 use Rattle.lsp_notes.specs.TextsSince.{stretch_of}
 use Rattle.lsp_notes.specs.declared.at_once.Splice as code
 use Rattle.lsp_notes.specs.declared.texts_since.Stretch.{Stretch}

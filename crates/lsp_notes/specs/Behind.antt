@@ -4,18 +4,13 @@ use Rattle.std.specs.Prelude.{◌≡◌, ℕ, List, Bool, true, false, ◌==◌,
 use Rattle.std.specs.Prelude.{None, String, unwrap_or}
 use Rattle.std.specs.Global.{Global}
 use Rattle.std.specs.Str.{bytes_eq}
-use Rattle.lsp_docs.specs.Calls.{Call, uri_of}
-use Rattle.lsp_docs.specs.Documents.{Terms}
+use Rattle.lsp_trail.specs.Common.{broken, Call, calls, content, each_of, Editor, Heard}
+use Rattle.lsp_trail.specs.Common.{heard_events, is_reopened, kept_before, last_or, Raw, rule_of}
+use Rattle.lsp_trail.specs.Common.{said_at, Server, show, Terms, uri_of}
 use Rattle.lsp_outline.specs.Named.{named_in}
-use Rattle.lsp_replay.specs.Telling.{kept_before, rule_of}
 use Rattle.lsp_uris.specs.Held.{has_uri}
 use Rattle.lsp_types.specs.declared.rules.TheConstants as rules
-use Rattle.lsp_types.specs.declared.side.Side.TheVariants.{Editor, Server}
-use Rattle.lsp_verdict.specs.Event.{calls}
-use Rattle.lsp_verdict.specs.Heard.{Heard, heard_events}
-use Rattle.lsp_verdict.specs.LookBack.{each_of}
-use Rattle.lsp_verdict.specs.Offences.{is_reopened, last_or, renews, said_at, sets_text}
-use Rattle.lsp_verdict.specs.Placed.{Raw, broken, content, show}
+use Rattle.lsp_verdict.specs.Offences.{renews, sets_text}
 use Rattle.lsp_notes.specs.declared.behind.Behind.{Behind}
 
 -- ---- an event that is skipped

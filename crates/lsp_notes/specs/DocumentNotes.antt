@@ -3,9 +3,8 @@ use Rattle.std.specs.Prelude.{ℕ, List, [], ◌∷◌, ◌++◌, map, take, len
 use Rattle.std.specs.Prelude.{if◌then◌else◌, Option, Some, None, string_bytes}
 use Rattle.std.specs.List.{list_any}
 use Rattle.std.specs.Str.{bytes_eq}
-use Rattle.lsp_verdict.specs.LookBack.{each_of}
+use Rattle.lsp_trail.specs.Common.{each_of, OnDocument}
 use Rattle.lsp_facts.specs.Fact.{Fact, cited}
-use Rattle.lsp_trail.specs.History.{OnDocument}
 use Rattle.lsp_notes.specs.declared.document_notes.DocumentNote as code
 
 -- a note on a document: its words, before those of the event that it names

@@ -3,15 +3,9 @@ use Rattle.std.specs.Prelude.{◌||◌, ℕ, List, Bool, if◌then◌else◌, Op
 use Rattle.std.specs.Prelude.{option_and_then, option_map, codes}
 use Rattle.std.specs.Str.{bytes_eq}
 use Rattle.serde_json.specs.Data.{Data}
-use Rattle.lsp_docs.specs.Documents.{Terms}
-use Rattle.lsp_outline.specs.Named.{document_in}
-use Rattle.lsp_rpc.specs.Message.{Message, request, notification, response}
-use Rattle.lsp_session.specs.Sent.{Sent}
-use Rattle.lsp_types.specs.declared.side.Side.{Side}
-use Rattle.lsp_types.specs.declared.side.Side.TheVariants.{Editor, Server}
-use Rattle.lsp_verdict.specs.Event.{Event, sent_of}
-use Rattle.lsp_replay.specs.declared.heard.EventPlace.{EventPlace}
-use Rattle.lsp_trail.specs.History.{each_kept, last_ones}
+use Rattle.lsp_trail.specs.Common.{document_in, each_kept, Editor, Event, EventPlace, last_ones}
+use Rattle.lsp_trail.specs.Common.{Message, notification, request, response, Sent, sent_of, Server}
+use Rattle.lsp_trail.specs.Common.{Side, Terms}
 use Rattle.lsp_notes.specs.Requests.{Request, request_at}
 
 -- the answer to a request of this method lists edits of the document that it names (LSP 3.17)

@@ -4,19 +4,11 @@ use Rattle.std.specs.Prelude.{◌++◌, map, length, if◌then◌else◌, Option
 use Rattle.std.specs.Prelude.{option_and_then, option_map, string_bytes}
 use Rattle.std.specs.List.{flat_map}
 use Rattle.std.specs.Str.{bytes_eq}
-use Rattle.lsp_docs.specs.Calls.{Bytes, Call, Text}
-use Rattle.lsp_docs.specs.Documents.{Terms, Version, held}
-use Rattle.lsp_docs.specs.Rules.{text_at}
-use Rattle.lsp_docs.specs.Snapshots.{kept}
+use Rattle.lsp_trail.specs.Common.{Bytes, Call, Edit, edits_of, edits_size, Encoding, EventPlace}
+use Rattle.lsp_trail.specs.Common.{held, kept, last_ones, last_setter, last_that, Terms, Text}
+use Rattle.lsp_trail.specs.Common.{text_at, Version}
 use Rattle.lsp_facts.specs.Fact.{place_words, spaced}
-use Rattle.lsp_replay.specs.declared.heard.EventPlace.{EventPlace}
-use Rattle.lsp_text.specs.Changes.{edits_of}
-use Rattle.lsp_text.specs.Edits.{Edit}
-use Rattle.lsp_types.specs.declared.position.Encoding.{Encoding}
 use Rattle.lsp_notes.specs.AtOnce.{makes}
-use Rattle.lsp_trail.specs.History.{last_ones, last_that}
-use Rattle.lsp_trail.specs.Marking.{last_setter}
-use Rattle.lsp_trail.specs.SentEdits.{edits_size}
 use Rattle.lsp_notes.specs.TextsSince.{version_at}
 use Rattle.lsp_notes.specs.declared.late_edits.LateAnswer as code
 use Rattle.lsp_trail.specs.declared.mark.VersionEvent.{VersionEvent}

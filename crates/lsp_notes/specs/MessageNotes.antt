@@ -1,7 +1,6 @@
 -- The notes on messages, as they are held.
 use Rattle.std.specs.Prelude.{List, Bool, if◌then◌else◌}
-use Rattle.lsp_docs.specs.Documents.{Terms}
-use Rattle.lsp_verdict.specs.Event.{Event}
+use Rattle.lsp_trail.specs.Common.{Event, Terms}
 use Rattle.lsp_notes.specs.Refusals.{AreRefusals}
 use Rattle.lsp_notes.specs.ServerEdits.{AreServerEdits}
 use Rattle.lsp_notes.specs.Spellings.{AreSpellings}

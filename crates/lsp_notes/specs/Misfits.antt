@@ -5,25 +5,16 @@ use Rattle.std.specs.Prelude.{Option, Some, None, option_map, option_and_then, c
 use Rattle.std.specs.Fmt.{signed_decimal}
 use Rattle.std.specs.List.{cons_option, filter_map, flat_map}
 use Rattle.std.specs.Ordering.{int_eq}
-use Rattle.lsp_types.specs.declared.position.Encoding.{Encoding}
-use Rattle.lsp_types.specs.declared.position.Encoding.TheVariants.{Utf8, Utf16, Utf32}
+use Rattle.lsp_trail.specs.Common.{Call, call_at, calls, changes, each_kept, Encoding}
+use Rattle.lsp_trail.specs.Common.{encoding_name, Event, EventPlace, Extent, Findings, held}
+use Rattle.lsp_trail.specs.Common.{kept_as, kept_of, Lines, on_document, OnDocument, place_of}
+use Rattle.lsp_trail.specs.Common.{Terms, Units, Utf16, Utf32, Utf8}
 use Rattle.lsp_types.specs.declared.rules.TheConstants as rules
 use Rattle.lsp_text.specs.Findings.{nothing}
-use Rattle.lsp_text.specs.declared.findings.Extent.{Extent}
-use Rattle.lsp_text.specs.declared.findings.Extent.TheVariants.{Lines, Units}
 use Rattle.lsp_text.specs.declared.findings.PastEnd.{PastEnd}
 use Rattle.lsp_text.specs.declared.findings.OtherLength.{OtherLength}
-use Rattle.lsp_text.specs.declared.findings.Findings.{Findings}
-use Rattle.lsp_docs.specs.Calls.{Call, changes}
-use Rattle.lsp_docs.specs.Documents.{Terms, held}
 use Rattle.lsp_docs.specs.Taken.{found_on}
-use Rattle.lsp_verdict.specs.Event.{call_at, calls, Event}
-use Rattle.lsp_verdict.specs.Offences.{kept_of}
-use Rattle.lsp_verdict.specs.Report.{encoding_name}
-use Rattle.lsp_replay.specs.Lines.{place_of}
-use Rattle.lsp_replay.specs.declared.heard.EventPlace.{EventPlace}
 use Rattle.lsp_facts.specs.Fact.{position_words, spaced}
-use Rattle.lsp_trail.specs.History.{OnDocument, each_kept, kept_as, on_document}
 use Rattle.lsp_notes.specs.DocumentNotes.{DocumentNote, document_note}
 use Rattle.lsp_notes.specs.DocumentNotes.{first_notes, notes_view, with_note}
 use Rattle.lsp_notes.specs.declared.misfits.Misfits as code

@@ -3,30 +3,20 @@ use Rattle.std.specs.Prelude.{ℕ, List, [], ◌∷◌, ◌++◌, map, length, �
 use Rattle.std.specs.Prelude.{if◌then◌else◌, option_to_list, option_map, codes, decimal}
 use Rattle.std.specs.Str.{bytes_eq}
 use Rattle.json.specs.Print.{quoted}
-use Rattle.lsp_session.specs.Negotiation.{encoding}
-use Rattle.lsp_docs.specs.Documents.{Terms}
-use Rattle.lsp_trail.specs.Asking.{Numbered, numbered, sents}
-use Rattle.lsp_trail.specs.SessionNotes.{Misused, misuses, abrupt_exit, older_encoding}
-use Rattle.lsp_trail.specs.History.{OnDocument}
+use Rattle.lsp_trail.specs.Common.{abrupt_exit, bad_log, Breach, Encoding, encoding, encoding_name}
+use Rattle.lsp_trail.specs.Common.{Event, EventPlace, events_of, line, Misused, misuses, no}
+use Rattle.lsp_trail.specs.Common.{notes_of, Numbered, numbered, older_encoding, OnDocument}
+use Rattle.lsp_trail.specs.Common.{renamed, sents, Terms, Verdict, yes}
 use Rattle.lsp_notes.specs.DocumentNotes.{DocumentNote, document_line}
 use Rattle.lsp_notes.specs.Misfits.{Found, found_kept, found_refuted, past_ends, range_lengths}
 use Rattle.lsp_notes.specs.Refusals.{refusals}
-use Rattle.lsp_trail.specs.Renames.{renamed}
 use Rattle.lsp_trail.specs.Openings.{unshown}
 use Rattle.lsp_notes.specs.ServerEdits.{lates, outsides, overlaps, unsents}
 use Rattle.lsp_notes.specs.Spellings.{spellings}
-use Rattle.lsp_verdict.specs.Event.{Event}
 use Rattle.lsp_trail.specs.declared.misuses.Misuse.{Misuse}
 use Rattle.lsp_trail.specs.declared.misuses.Misuse.TheVariants.{AsRequest, AsNotification}
 use Rattle.lsp_trail.specs.declared.misuses.Misuse.TheVariants.{ByEditor, ByServer}
-use Rattle.lsp_trail.specs.Breaches.{Breach}
-use Rattle.lsp_types.specs.declared.position.Encoding.{Encoding}
-use Rattle.lsp_replay.specs.declared.heard.EventPlace.{EventPlace}
 use Rattle.lsp_facts.specs.Fact.{Fact, cited, fact_lines, place_words}
-use Rattle.lsp_verdict.specs.Report.{encoding_name, line}
-use Rattle.lsp_verdict.specs.Verdict.{Verdict, yes, no, bad_log}
-use Rattle.lsp_verdict.specs.Heard.{notes_of}
-use Rattle.lsp_verdict.specs.Offences.{events_of}
 
 -- ---- their lines
 

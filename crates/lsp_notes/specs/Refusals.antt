@@ -4,23 +4,13 @@ use Rattle.std.specs.Prelude.{if◌then◌else◌, is_some, Option, Some, None, 
 use Rattle.std.specs.Prelude.{option_and_then, codes}
 use Rattle.std.specs.Ordering.{int_eq}
 use Rattle.json.specs.Print.{quoted}
-use Rattle.lsp_docs.specs.Documents.{Terms}
-use Rattle.lsp_rpc.specs.Ident.{Ident}
-use Rattle.lsp_rpc.specs.Message.{Message, request, notification, response, Reply, result, error}
-use Rattle.lsp_session.specs.Sent.{Sent}
-use Rattle.lsp_types.specs.declared.side.Side.{Side}
-use Rattle.lsp_types.specs.declared.side.Side.TheVariants.{Editor, Server}
-use Rattle.lsp_verdict.specs.Event.{Event, sent_of}
-use Rattle.lsp_verdict.specs.LookBack.{each_of}
-use Rattle.lsp_verdict.specs.Offences.{rule_at}
-use Rattle.lsp_replay.specs.Lines.{place_of}
-use Rattle.lsp_replay.specs.declared.heard.EventPlace.{EventPlace}
-use Rattle.lsp_trail.specs.Asking.{asked, numbered}
+use Rattle.lsp_trail.specs.Common.{asked, document_in, each_kept, each_of, Editor, error, Event}
+use Rattle.lsp_trail.specs.Common.{EventPlace, Ident, last_ones, Message, notification, numbered}
+use Rattle.lsp_trail.specs.Common.{on_document, place_of, Reply, request, response, result, rule_at}
+use Rattle.lsp_trail.specs.Common.{Sent, sent_of, Server, Side, steps, Terms}
 use Rattle.lsp_notes.specs.DocumentNotes.{DocumentNote, document_note, first_notes, notes_view}
-use Rattle.lsp_trail.specs.History.{each_kept, last_ones, on_document}
-use Rattle.lsp_trail.specs.Marking.{opened, steps}
+use Rattle.lsp_trail.specs.Marking.{opened}
 use Rattle.lsp_notes.specs.Requests.{Request, request_at, request_at_place, requests_view}
-use Rattle.lsp_outline.specs.Named.{document_in}
 use Rattle.lsp_notes.specs.declared.refusals.Refusals.{Refusals}
 
 -- ---- requests

@@ -5,39 +5,22 @@ use Rattle.std.specs.Prelude.{option_to_list, codes, string_bytes}
 use Rattle.std.specs.List.{filter_map, fold}
 use Rattle.std.specs.Str.{bytes_eq}
 use Rattle.serde_json.specs.Data.{Data}
-use Rattle.lsp_docs.specs.Calls.{Call, changes}
-use Rattle.lsp_docs.specs.Documents.{Held, Terms, documents}
-use Rattle.lsp_docs.specs.State.{Stands}
+use Rattle.lsp_trail.specs.Common.{agreed_encoding, asked, Call, calls, changes, each_of, Edit}
+use Rattle.lsp_trail.specs.Common.{Editor, edits_of, Encoding, error, Event, EventPlace, Ident}
+use Rattle.lsp_trail.specs.Common.{IsTrail, kept_of, last_ones, member, Message, notification}
+use Rattle.lsp_trail.specs.Common.{numbered, on_document, place_of, Position, recent, Reply}
+use Rattle.lsp_trail.specs.Common.{request, response, result, rule_at, said_at, Sent, sent_of}
+use Rattle.lsp_trail.specs.Common.{Server, Side, Stands, steps, Terms, version_named, Versioned}
+use Rattle.lsp_docs.specs.Documents.{Held, documents}
 use Rattle.lsp_facts.specs.Fact.{position_words}
-use Rattle.lsp_outline.specs.Versions.{Versioned}
-use Rattle.lsp_replay.specs.Lines.{place_of}
-use Rattle.lsp_replay.specs.declared.heard.EventPlace.{EventPlace}
-use Rattle.lsp_rpc.specs.Ident.{Ident}
-use Rattle.lsp_rpc.specs.Message.{Message, request, notification, response, Reply, result, error}
-use Rattle.lsp_rpc.specs.Shape.{member}
-use Rattle.lsp_session.specs.Sent.{Sent}
-use Rattle.lsp_text.specs.Changes.{edits_of}
-use Rattle.lsp_text.specs.Edits.{Edit}
-use Rattle.lsp_types.specs.declared.position.Encoding.{Encoding}
-use Rattle.lsp_types.specs.declared.position.Position.{Position}
-use Rattle.lsp_types.specs.declared.side.Side.{Side}
-use Rattle.lsp_types.specs.declared.side.Side.TheVariants.{Editor, Server}
-use Rattle.lsp_verdict.specs.Event.{calls, Event, sent_of}
-use Rattle.lsp_verdict.specs.LookBack.{each_of}
-use Rattle.lsp_verdict.specs.Offences.{kept_of, rule_at, said_at}
-use Rattle.lsp_trail.specs.Asking.{asked, numbered}
 use Rattle.lsp_notes.specs.DocumentNotes.{DocumentNote, document_note}
 use Rattle.lsp_notes.specs.DocumentNotes.{first_notes, notes_view, with_note}
 use Rattle.lsp_notes.specs.EditRequests.{last_requests}
 use Rattle.lsp_notes.specs.Requests.{Request, request_at_place, requests_view}
-use Rattle.lsp_trail.specs.History.{last_ones, on_document}
 use Rattle.lsp_notes.specs.LateEdits.{HoldsLate, LateAnswer, if_late, lates_view, most_late}
 use Rattle.lsp_notes.specs.LateEdits.{words_since}
-use Rattle.lsp_trail.specs.Marking.{recent, steps}
-use Rattle.lsp_trail.specs.Naming.{version_named}
 use Rattle.lsp_notes.specs.TextEdits.{DocumentEdits, edits_for, text_edits_at}
 use Rattle.lsp_notes.specs.TextsSince.{first_outside, overlap_each, texts_since}
-use Rattle.lsp_trail.specs.Trails.{IsTrail, agreed_encoding}
 use Rattle.lsp_notes.specs.Unsent.{is_unsent, unsent_words}
 use Rattle.lsp_notes.specs.declared.edited.Edited as code
 use Rattle.lsp_notes.specs.declared.edited.Now.{Now}

@@ -5,22 +5,15 @@ use Rattle.std.specs.Prelude.{if◌then◌else◌, Option, Some, None, option_an
 use Rattle.std.specs.List.{find}
 use Rattle.std.specs.Str.{bytes_eq}
 use Rattle.json.specs.Print.{quoted}
-use Rattle.lsp_docs.specs.Calls.{Call, opens, saves}
-use Rattle.lsp_docs.specs.Documents.{Terms, held}
-use Rattle.lsp_docs.specs.State.{Stands}
-use Rattle.lsp_session.specs.Sent.{Sent}
-use Rattle.lsp_verdict.specs.Event.{call_at, calls, Event, message, sent_of}
-use Rattle.lsp_verdict.specs.LookBack.{each_of}
-use Rattle.lsp_verdict.specs.Offences.{kept_of, rule_at}
+use Rattle.lsp_trail.specs.Common.{AreOpenings, Call, call_at, calls, each_of, Event, EventPlace}
+use Rattle.lsp_trail.specs.Common.{held, if_unopened, is_standing, kept_of, last_openings, message}
+use Rattle.lsp_trail.specs.Common.{on_document, OnDocument, opens, place_of, rule_at, saves, Sent}
+use Rattle.lsp_trail.specs.Common.{sent_of, Stands, Terms}
 use Rattle.lsp_verdict.specs.Spelling.{folded}
 use Rattle.lsp_facts.specs.Fact.{spaced}
-use Rattle.lsp_replay.specs.Lines.{place_of}
-use Rattle.lsp_replay.specs.declared.heard.EventPlace.{EventPlace}
 use Rattle.lsp_notes.specs.DocumentNotes.{DocumentNote, document_note, first_notes, notes_view}
-use Rattle.lsp_trail.specs.History.{OnDocument, on_document}
-use Rattle.lsp_trail.specs.Naming.{if_unopened, named_by}
-use Rattle.lsp_trail.specs.Openings.{AreOpenings}
-use Rattle.lsp_trail.specs.Spelled.{is_spelled, is_standing, last_openings}
+use Rattle.lsp_trail.specs.Naming.{named_by}
+use Rattle.lsp_trail.specs.Spelled.{is_spelled}
 use Rattle.lsp_notes.specs.declared.spellings.Spellings as code
 use Rattle.lsp_notes.specs.declared.spellings.Sought.{Sought}
 

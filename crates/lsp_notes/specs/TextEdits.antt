@@ -4,11 +4,8 @@ use Rattle.std.specs.Prelude.{Option, Some, None, option_and_then, option_map, c
 use Rattle.std.specs.Str.{bytes_eq, chars}
 use Rattle.serde_json.specs.Data.{Data, Items, no_items, item}
 use Rattle.serde_json.specs.Find.{as_array, as_str}
-use Rattle.lsp_rpc.specs.Params.{all_of, both, given, required, span_at, uri_at, version_at}
-use Rattle.lsp_rpc.specs.Shape.{member}
-use Rattle.lsp_text.specs.Changes.{edits_of}
-use Rattle.lsp_text.specs.Edits.{Edit}
-use Rattle.lsp_types.specs.declared.position.Span.{Span}
+use Rattle.lsp_rpc.specs.Params.{both, given, required, span_at, uri_at, version_at}
+use Rattle.lsp_trail.specs.Common.{all_of, Edit, edits_of, member, Span}
 use Rattle.lsp_notes.specs.declared.text_edits.DocumentEdits as code
 
 -- ---- edits of a text

@@ -3,23 +3,12 @@ use Rattle.std.specs.Prelude.{ℕ, ℤ, int_lt, ◌&&◌, ◌||◌, ◌==◌, Bo
 use Rattle.std.specs.Prelude.{[], ◌∷◌, ◌++◌, map, filter, if◌then◌else◌, Option, Some, None}
 use Rattle.std.specs.Prelude.{is_none, is_some, option_and_then, option_map, option_to_list}
 use Rattle.std.specs.List.{filter_map, find, flat_map, list_any, list_all}
-use Rattle.lsp_docs.specs.Calls.{Bytes, Call, Text}
-use Rattle.lsp_docs.specs.Documents.{Terms, Version, held}
-use Rattle.lsp_docs.specs.Rules.{text_at}
-use Rattle.lsp_docs.specs.Snapshots.{kept}
-use Rattle.lsp_text.specs.Edits.{Edit}
-use Rattle.lsp_text.specs.Findings.{text_extent}
+use Rattle.lsp_trail.specs.Common.{Bytes, Call, Counted, Edit, Encoding, EventPlace, Extent, held}
+use Rattle.lsp_trail.specs.Common.{kept, last_that, Lines, Position, Span, Terms, Text, text_at}
+use Rattle.lsp_trail.specs.Common.{text_extent, Units, Version}
 use Rattle.lsp_text.specs.Places.{place_of}
-use Rattle.lsp_text.specs.declared.findings.Extent.{Extent}
-use Rattle.lsp_text.specs.declared.findings.Extent.TheVariants.{Lines, Units}
-use Rattle.lsp_types.specs.declared.position.Encoding.{Encoding}
-use Rattle.lsp_types.specs.declared.position.Position.{Position}
-use Rattle.lsp_types.specs.declared.position.Span.{Span}
-use Rattle.lsp_replay.specs.declared.heard.EventPlace.{EventPlace}
-use Rattle.lsp_trail.specs.History.{last_that}
 use Rattle.lsp_notes.specs.declared.texts_since.Stretch.{Stretch}
 use Rattle.lsp_trail.specs.declared.mark.VersionEvent.{VersionEvent}
-use Rattle.lsp_lined.specs.Counted.{Counted}
 
 -- ---- its texts
 

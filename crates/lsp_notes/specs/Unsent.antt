@@ -3,10 +3,7 @@ use Rattle.std.specs.Prelude.{◌&&◌, ◌||◌, ◌==◌, ◌++◌, ℕ, ℤ, 
 use Rattle.std.specs.Prelude.{[], ◌∷◌, codes}
 use Rattle.std.specs.Fmt.{signed_decimal}
 use Rattle.std.specs.List.{list_any}
-use Rattle.lsp_docs.specs.Documents.{Terms}
-use Rattle.lsp_verdict.specs.Event.{Event}
-use Rattle.lsp_trail.specs.Marking.{is_set_to, recent, steps}
-use Rattle.lsp_trail.specs.Openings.{closing_of, closings}
+use Rattle.lsp_trail.specs.Common.{closing_of, closings, Event, is_set_to, recent, steps, Terms}
 use Rattle.lsp_trail.specs.declared.mark.VersionEvent.{VersionEvent}
 use Rattle.lsp_trail.specs.declared.openings.Closing.{Closing}
 use Rattle.lsp_trail.specs.declared.openings.Closing.TheVariants as closing

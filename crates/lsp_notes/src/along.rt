@@ -1,18 +1,12 @@
 //! The notes on the events of a session, each of which is told once: when it is found.
 ghost use Rattle.std.specs.Prelude.{◌≡◌, ◌++◌, ◌∷◌, [], List, None, OnOk, drop};
 ghost use Rattle.std.specs.Prelude.{if◌then◌else◌, is_some, map, option_map, string_bytes};
-ghost use Rattle.lsp_docs.specs.Documents.{Terms};
+ghost use Rattle.lsp_trail.specs.Common.{act_view, Event, Exited, HasFate, Heard, heard_events};
+ghost use Rattle.lsp_trail.specs.Common.{is_shutdown, IsSeen, IsTrail, MaySpeak, phase, rule_of};
+ghost use Rattle.lsp_trail.specs.Common.{same_phase, Sent, StandsAfter, Terms, terms_in};
+ghost use Rattle.lsp_trail.specs.Common.{verdict_view};
 ghost use Rattle.lsp_facts.specs.Fact.{fact_lines};
-ghost use Rattle.lsp_replay.specs.Telling.{HasFate, IsSeen, MaySpeak, rule_of};
-ghost use Rattle.lsp_rpc.specs.View.{act_view};
-ghost use Rattle.lsp_session.specs.Handshake.{phase};
-ghost use Rattle.lsp_session.specs.Sent.{Sent, is_shutdown};
 ghost use Rattle.lsp_session.specs.State.{Stands};
-ghost use Rattle.lsp_session.specs.declared.phase.Phase.TheVariants.{Exited};
-ghost use Rattle.lsp_trail.specs.Asking.{same_phase};
-ghost use Rattle.lsp_verdict.specs.Event.{Event};
-ghost use Rattle.lsp_verdict.specs.Given.{verdict_view};
-ghost use Rattle.lsp_verdict.specs.Heard.{Heard, heard_events};
 ghost use Rattle.lsp_notes.specs.AllNotes as spec;
 ghost use Rattle.lsp_notes.specs.AllNotes.{AreAlong, beyond, counts, end_notes, exit_along};
 ghost use Rattle.lsp_notes.specs.AllNotes.{found_more, is_broken, kinds, noticed_along};
@@ -21,7 +15,6 @@ ghost use Rattle.lsp_notes.specs.Behind.{AreBehind};
 ghost use Rattle.lsp_notes.specs.DocumentNotes.{document_line, notes_view};
 ghost use Rattle.lsp_notes.specs.MessageNotes.{AreNoted};
 ghost use Rattle.lsp_notes.specs.Misfits.{AreMisfits, Found};
-ghost use Rattle.lsp_trail.specs.Trails.{IsTrail, StandsAfter, terms_in};
 
 use crate::behind::Behind;
 use crate::document_notes::{beyond, push_beyond};

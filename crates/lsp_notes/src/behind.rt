@@ -2,14 +2,9 @@
 ghost use Rattle.std.specs.Prelude.{◌≡◌, ◌++◌, ◌∷◌, [], List, IfOk, OnOk, false, option_map};
 ghost use Rattle.std.specs.Prelude.{string_bytes, true};
 ghost use Rattle.lsp_docs.specs.Calls.{Call as SpecCall};
-ghost use Rattle.lsp_docs.specs.Documents.{Terms};
-ghost use Rattle.lsp_docs.specs.State.{Stands};
-ghost use Rattle.lsp_docs.specs.Taken.{call_view};
-ghost use Rattle.lsp_replay.specs.Telling.{IsSeen};
+ghost use Rattle.lsp_trail.specs.Common.{call_view, Heard, is_reopened, IsSeen, raw_view, Stands};
+ghost use Rattle.lsp_trail.specs.Common.{Terms};
 ghost use Rattle.lsp_uris.specs.Held.{has_uri};
-ghost use Rattle.lsp_verdict.specs.Given.{raw_view};
-ghost use Rattle.lsp_verdict.specs.Heard.{Heard};
-ghost use Rattle.lsp_verdict.specs.Offences.{is_reopened};
 ghost use Rattle.lsp_notes.specs.Behind as spec;
 ghost use Rattle.lsp_notes.specs.Behind.{AreBehind, PutsBehind, is_among, renewed};
 

@@ -3,13 +3,10 @@ ghost use Rattle.std.specs.Prelude.{◌≡◌, [], IfOk, OnOk, Some, option_map,
 ghost use Rattle.std.specs.List.{cons_option};
 ghost use Rattle.lsp_notes.specs.EditRequests as spec;
 ghost use Rattle.lsp_notes.specs.EditRequests.{most_requests};
-ghost use Rattle.lsp_trail.specs.Naming.{version_named};
+ghost use Rattle.lsp_trail.specs.Common.{Editor, message_view, outline, version_named};
+ghost use Rattle.lsp_trail.specs.Common.{version_view};
 ghost use Rattle.lsp_notes.specs.Requests.{Holds, request_at};
-ghost use Rattle.lsp_outline.specs.Versions.{version_view};
 ghost use Rattle.lsp_rpc.specs.Message.{Message as AMessage};
-ghost use Rattle.lsp_rpc.specs.Outline.{outline};
-ghost use Rattle.lsp_rpc.specs.View.{message_view};
-ghost use Rattle.lsp_types.specs.declared.side.Side.TheVariants.{Editor};
 
 use crate::requests::{Request, push_request};
 use lsp_outline::DocumentVersion;

@@ -2,24 +2,16 @@
 ghost use Rattle.std.specs.Prelude.{◌≡◌, ◌++◌, ◌∷◌, [], None, Some, List, IfOk, OnOk, true};
 ghost use Rattle.std.specs.Prelude.{map, option_map, option_to_list};
 ghost use Rattle.lsp_docs.specs.Calls.{Call as SpecCall};
-ghost use Rattle.lsp_docs.specs.Documents.{Terms};
-ghost use Rattle.lsp_docs.specs.State.{Stands};
+ghost use Rattle.lsp_trail.specs.Common.{Event, id_view, IsTrail, message_view, outline, params_of};
+ghost use Rattle.lsp_trail.specs.Common.{Server, Stands, Terms, version_named, version_view};
 ghost use Rattle.lsp_notes.specs.EditRequests.{last_requests};
-ghost use Rattle.lsp_trail.specs.Naming.{params_of, version_named};
 ghost use Rattle.lsp_notes.specs.Refusals.{is_request};
 ghost use Rattle.lsp_notes.specs.Requests.{request_view, requests_view};
 ghost use Rattle.lsp_notes.specs.ServerEdits as spec;
 ghost use Rattle.lsp_notes.specs.ServerEdits.{IsNow, edited_view, uris_with};
 ghost use Rattle.lsp_notes.specs.TextEdits.{text_edits_at};
-ghost use Rattle.lsp_trail.specs.Trails.{IsTrail};
-ghost use Rattle.lsp_outline.specs.Versions.{version_view};
-ghost use Rattle.lsp_rpc.specs.Ident.{id_view};
 ghost use Rattle.lsp_rpc.specs.Message.{Message as AMessage};
-ghost use Rattle.lsp_rpc.specs.Outline.{outline};
 ghost use Rattle.lsp_rpc.specs.Reading.{Reads};
-ghost use Rattle.lsp_rpc.specs.View.{message_view};
-ghost use Rattle.lsp_types.specs.declared.side.Side.TheVariants.{Server};
-ghost use Rattle.lsp_verdict.specs.Event.{Event};
 ghost use Rattle.serde_json.specs.View.{view};
 
 use crate::requests::{Request, request_at};

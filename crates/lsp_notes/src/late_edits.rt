@@ -3,17 +3,12 @@ ghost use Rattle.std.specs.Prelude.{◌≡◌, ◌++◌, [], List, IfOk, OnOk, n
 ghost use Rattle.std.specs.Prelude.{string_bytes};
 ghost use Rattle.std.specs.List.{cons_option, flat_map};
 ghost use Rattle.lsp_docs.specs.Calls.{Call as SpecCall};
-ghost use Rattle.lsp_docs.specs.Documents.{held};
-ghost use Rattle.lsp_docs.specs.Snapshots.{kept};
-ghost use Rattle.lsp_docs.specs.State.{Stands};
-ghost use Rattle.lsp_trail.specs.History.{last_that};
+ghost use Rattle.lsp_trail.specs.Common.{edits_of, edits_size, held, kept, last_setter, last_that};
+ghost use Rattle.lsp_trail.specs.Common.{Stands};
 ghost use Rattle.lsp_notes.specs.LateEdits as spec;
 ghost use Rattle.lsp_notes.specs.LateEdits.{HoldsLate, late_view, lates_view};
-ghost use Rattle.lsp_trail.specs.Marking.{last_setter};
-ghost use Rattle.lsp_trail.specs.SentEdits.{edits_size};
 ghost use Rattle.lsp_notes.specs.TextsSince.{contents};
 ghost use Rattle.lsp_facts.specs.Fact.{place_words, spaced};
-ghost use Rattle.lsp_text.specs.Changes.{edits_of};
 
 use crate::at_once::makes;
 use crate::texts_since::version_at;

@@ -1,17 +1,11 @@
 //! The notes on messages: requests that were refused, other spellings, and what the server sends.
 ghost use Rattle.std.specs.Prelude.{◌≡◌, ◌++◌, ◌∷◌, [], List, None, OnOk, Some, false, option_map};
-ghost use Rattle.lsp_docs.specs.Documents.{Terms};
+ghost use Rattle.lsp_trail.specs.Common.{Event, Heard, heard_events, IsNoted, IsSeen, IsTrail};
+ghost use Rattle.lsp_trail.specs.Common.{kept_before, MaySpeak, raw_view, rule_of, said_at, Stood};
+ghost use Rattle.lsp_trail.specs.Common.{Terms, version_named_at, version_view};
 ghost use Rattle.lsp_notes.specs.MessageNotes.{AreNoted, served_with};
-ghost use Rattle.lsp_trail.specs.Naming.{version_named_at};
 ghost use Rattle.lsp_notes.specs.ServerEdits.{AreServerEdits};
 ghost use Rattle.lsp_notes.specs.Spellings.{AreSpellings};
-ghost use Rattle.lsp_trail.specs.Trails.{IsTrail};
-ghost use Rattle.lsp_outline.specs.Versions.{version_view};
-ghost use Rattle.lsp_replay.specs.Telling.{IsSeen, MaySpeak, Stood, kept_before, rule_of};
-ghost use Rattle.lsp_verdict.specs.Event.{Event};
-ghost use Rattle.lsp_verdict.specs.Given.{raw_view};
-ghost use Rattle.lsp_verdict.specs.Heard.{Heard, heard_events};
-ghost use Rattle.lsp_verdict.specs.Offences.{IsNoted, said_at};
 
 use crate::refusals::Refusals;
 use crate::server_edits::ServerEdits;

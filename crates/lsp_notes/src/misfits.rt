@@ -4,20 +4,12 @@ ghost use Rattle.std.specs.Prelude.{◌≡◌, ◌++◌, ◌∷◌, [], List, So
 ghost use Rattle.std.specs.Prelude.{Ok, if◌then◌else◌, pos, ℕ, string_bytes};
 ghost use Rattle.std.specs.Ordering.{int_eq};
 ghost use Rattle.lsp_docs.specs.Calls.{Call as SpecCall};
-ghost use Rattle.lsp_docs.specs.Documents.{Terms};
-ghost use Rattle.lsp_docs.specs.Rules.{call_rule};
-ghost use Rattle.lsp_docs.specs.State.{Stands};
-ghost use Rattle.lsp_docs.specs.Taken.{call_view};
+ghost use Rattle.lsp_trail.specs.Common.{applied, call_rule, call_view, edits_of, findings, Heard};
+ghost use Rattle.lsp_trail.specs.Common.{heard_events, IsSeen, on_document, rule_of, Stands, Terms};
 ghost use Rattle.lsp_notes.specs.DocumentNotes.{document_note, notes_view, with_note};
-ghost use Rattle.lsp_trail.specs.History.{on_document};
 ghost use Rattle.lsp_notes.specs.Misfits as spec;
 ghost use Rattle.lsp_notes.specs.Misfits.{AreMisfits, MisfitsBy, finds, found_refuted, kept_found};
-ghost use Rattle.lsp_replay.specs.Telling.{IsSeen, rule_of};
-ghost use Rattle.lsp_text.specs.Changes.{edits_of};
-ghost use Rattle.lsp_text.specs.Edits.{applied};
-ghost use Rattle.lsp_text.specs.Findings.{findings};
 ghost use Rattle.lsp_types.specs.declared.rules.TheConstants as rules;
-ghost use Rattle.lsp_verdict.specs.Heard.{Heard, heard_events};
 
 use crate::document_notes::{DocumentNote, is_noted, push_note};
 use lsp_docs::{Call, Docs, Took};

@@ -1,18 +1,14 @@
 //! The notes on a session, and the line of each.
 ghost use Rattle.std.specs.Prelude.{◌≡◌, ◌++◌, List, IfOk, OnOk, length, map, option_map};
 ghost use Rattle.std.specs.Prelude.{string_bytes};
-ghost use Rattle.lsp_trail.specs.Asking.{numbered};
-ghost use Rattle.lsp_trail.specs.SessionNotes.{misused_views};
-ghost use Rattle.lsp_trail.specs.Openings.{names_view, on_view};
-ghost use Rattle.lsp_verdict.specs.Event.{Event};
-ghost use Rattle.lsp_verdict.specs.Given.{verdict_view};
+ghost use Rattle.lsp_trail.specs.Common.{Event, misused_views, names_view, numbered, on_view};
+ghost use Rattle.lsp_trail.specs.Common.{StandsAfter, terms_in, verdict_view};
 ghost use Rattle.lsp_notes.specs.MessageNotes.{AreNoted};
 ghost use Rattle.lsp_notes.specs.Misfits.{AreMisfits, Found};
 ghost use Rattle.lsp_notes.specs.Notes as spec;
 ghost use Rattle.lsp_notes.specs.Notes.{count_line, exit_notes, misuse_line, name_notes, name_of};
 ghost use Rattle.lsp_notes.specs.Notes.{note_lines, notes_by, noticed, old_name_notes, uncompared};
 ghost use Rattle.lsp_notes.specs.Notes.{unshown_line, with_exit, with_server};
-ghost use Rattle.lsp_trail.specs.Trails.{StandsAfter, terms_in};
 
 use crate::document_notes::push_lines;
 use crate::messages::MessageNotes;

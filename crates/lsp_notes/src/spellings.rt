@@ -4,21 +4,13 @@ ghost use Rattle.std.specs.Prelude.{◌≡◌, ◌++◌, ◌∷◌, [], List, No
 ghost use Rattle.std.specs.Prelude.{option_map, string_bytes};
 ghost use Rattle.std.specs.List.{find};
 ghost use Rattle.lsp_docs.specs.Calls.{Call as SpecCall};
-ghost use Rattle.lsp_docs.specs.Documents.{Terms};
-ghost use Rattle.lsp_docs.specs.State.{Stands};
-ghost use Rattle.lsp_docs.specs.Taken.{call_view};
+ghost use Rattle.lsp_trail.specs.Common.{AreOpenings, call_view, calls, Event, Heard, heard_events};
+ghost use Rattle.lsp_trail.specs.Common.{IsNoted, IsSeen, IsTrail, kept_of, on_view, ons_view};
+ghost use Rattle.lsp_trail.specs.Common.{raw_view, rule_of, said_at, Stands, Stood, Terms};
+ghost use Rattle.lsp_trail.specs.Common.{version_named_at, version_view};
 ghost use Rattle.lsp_notes.specs.DocumentNotes.{notes_view, with_note};
-ghost use Rattle.lsp_trail.specs.Naming.{version_named_at};
-ghost use Rattle.lsp_trail.specs.Openings.{AreOpenings, on_view, ons_view};
 ghost use Rattle.lsp_notes.specs.Spellings as spec;
 ghost use Rattle.lsp_notes.specs.Spellings.{AreSpellings, HoldsOthers, IsSought};
-ghost use Rattle.lsp_trail.specs.Trails.{IsTrail};
-ghost use Rattle.lsp_outline.specs.Versions.{version_view};
-ghost use Rattle.lsp_replay.specs.Telling.{IsSeen, Stood, rule_of};
-ghost use Rattle.lsp_verdict.specs.Event.{Event, calls};
-ghost use Rattle.lsp_verdict.specs.Heard.{Heard, heard_events};
-ghost use Rattle.lsp_verdict.specs.Given.{raw_view};
-ghost use Rattle.lsp_verdict.specs.Offences.{IsNoted, kept_of, said_at};
 
 use crate::document_notes::{DocumentNote, is_noted, push_note};
 use lsp_docs::{Call, Docs};

@@ -5,8 +5,7 @@ ghost use Rattle.serde_json.specs.View.{items_view, view};
 ghost use Rattle.lsp_notes.specs.TextEdits as spec;
 ghost use Rattle.lsp_notes.specs.TextEdits.{document_edits_view};
 ghost use Rattle.lsp_rpc.specs.Params as shapes;
-ghost use Rattle.lsp_rpc.specs.Shape.{member};
-ghost use Rattle.lsp_text.specs.Changes.{edit_of, edits_of};
+ghost use Rattle.lsp_trail.specs.Common.{edit_of, edits_of, member};
 
 use lsp_rpc::{Result, given, integer_at, span_of, text_at};
 use lsp_types::{Change, Span};

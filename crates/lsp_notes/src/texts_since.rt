@@ -3,13 +3,9 @@ ghost use Rattle.std.specs.Prelude.{◌≡◌, ◌++◌, ◌∷◌, [], ◌==◌
 ghost use Rattle.std.specs.Prelude.{option_map, option_to_list};
 ghost use Rattle.std.specs.List.{find, list_any};
 ghost use Rattle.lsp_docs.specs.Calls.{Call as SpecCall};
-ghost use Rattle.lsp_docs.specs.Documents.{held};
-ghost use Rattle.lsp_docs.specs.Snapshots.{kept};
-ghost use Rattle.lsp_docs.specs.State.{Stands};
-ghost use Rattle.lsp_trail.specs.History.{last_that};
+ghost use Rattle.lsp_trail.specs.Common.{edits_of, held, kept, last_that, Stands};
 ghost use Rattle.lsp_notes.specs.TextsSince as spec;
 ghost use Rattle.lsp_notes.specs.TextsSince.{contents};
-ghost use Rattle.lsp_text.specs.Changes.{edits_of};
 ghost use Rattle.lsp_text.specs.Places as places;
 
 use lsp_docs::Docs;

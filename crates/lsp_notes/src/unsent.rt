@@ -1,12 +1,9 @@
 //! Versions of documents that no message has set.
 ghost use Rattle.std.specs.Prelude.{◌≡◌, List, IfOk, option_map, string_bytes};
 ghost use Rattle.std.specs.List.{list_any};
-ghost use Rattle.lsp_docs.specs.Documents.{Terms};
-ghost use Rattle.lsp_trail.specs.Marking.{is_set_to};
+ghost use Rattle.lsp_trail.specs.Common.{Event, is_set_to, IsTrail, Terms};
 ghost use Rattle.lsp_notes.specs.ServerEdits.{if_unsent};
-ghost use Rattle.lsp_trail.specs.Trails.{IsTrail};
 ghost use Rattle.lsp_notes.specs.Unsent as spec;
-ghost use Rattle.lsp_verdict.specs.Event.{Event};
 
 use lsp_rpc::Result;
 use lsp_trail::{Closing, Trail, VersionEvent};

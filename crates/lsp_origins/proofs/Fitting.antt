@@ -9,17 +9,10 @@ use Rattle.std.proofs.Common.{Some, None, refl, sym, ap, ◌∙◌, append-nil, 
 use Rattle.std.proofs.Common.{get_or, subst, suc, take}
 use Rattle.std.proofs.lemmas.Bool.Decides.{nat_tests}
 use Rattle.std.proofs.lemmas.List.{at_drop_more, map-append, take-map}
-use Rattle.lsp_types.specs.declared.change.Change.{Change}
-use Rattle.lsp_types.specs.declared.change.SyncKind.{SyncKind}
-use Rattle.lsp_types.specs.declared.position.Encoding.{Encoding}
-use Rattle.lsp_text.specs.SameText.{same_text}
-use Rattle.lsp_text.specs.declared.findings.Findings.{Findings}
-use Rattle.lsp_docs.specs.Calls.{Call, Text}
-use Rattle.lsp_docs.specs.Documents.{Terms}
-use Rattle.lsp_docs.specs.Taken.{call_view}
+use Rattle.lsp_trail.specs.Common.{are_few, Call, call_view, Change, Encoding, Findings, same_text}
+use Rattle.lsp_trail.specs.Common.{sent_view, SentEdits, sents_view, SyncKind, Terms, Text}
 use Rattle.lsp_docs.specs.declared.call.Call as code
 use Rattle.lsp_docs.specs.declared.call.Call.TheVariants.{Opens, Changes, Closes, Saves, Shows}
-use Rattle.lsp_trail.specs.SentEdits.{SentEdits, are_few, sent_view, sents_view}
 use Rattle.lsp_origins.specs.Fits.{AreNamed, AreSuspects, both, held_reached, if_given, if_named}
 use Rattle.lsp_origins.specs.Fits.{is_given, is_given_by, is_made, is_reached, made, made_by}
 use Rattle.lsp_origins.specs.Fits.{most_named, own_edits, reached, suspect_view, suspected_view}

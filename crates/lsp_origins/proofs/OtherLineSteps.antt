@@ -9,9 +9,7 @@ use Rattle.std.proofs.Common.{◌≡◌, false, List, [], ◌∷◌, ◌++◌, O
 use Rattle.std.proofs.Common.{◌∙◌, append-nil, append_assoc, drop, get_or, take}
 use Rattle.std.proofs.lemmas.Str.{IsUtf8-string_bytes, chars_from_encodes, encodes-append}
 use Rattle.std.proofs.lemmas.Str.{encodes-chars}
-use Rattle.lsp_types.specs.declared.position.Encoding.{Encoding}
-use Rattle.lsp_text.specs.Changes.{edit_of, edits_of}
-use Rattle.lsp_text.specs.Edits.{Edit, splice}
+use Rattle.lsp_trail.specs.Common.{Edit, edit_of, edits_of, Encoding, splice}
 use Rattle.lsp_text.specs.Lines.{is_feed}
 use Rattle.lsp_docs.proofs.Words.{any-map}
 use Rattle.lsp_origins.specs.Fits.{suspects_view}

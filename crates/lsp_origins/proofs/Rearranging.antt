@@ -5,11 +5,9 @@ use Rattle.std.proofs.Common.{◌≡◌, List, [], ◌∷◌, ◌++◌, sym, ap,
 use Rattle.std.proofs.Common.{take}
 use Rattle.std.proofs.lemmas.List.{at_drop_more, drop-drop, drop-map, drop_min, map-append}
 use Rattle.std.proofs.lemmas.List.{take-map, take_min}
-use Rattle.lsp_types.specs.declared.change.Change.{Change}
-use Rattle.lsp_text.specs.Changes.{edits_of}
+use Rattle.lsp_trail.specs.Common.{Change, edits_of, sent_edits, SentEdits}
 use Rattle.lsp_origins.specs.Fits.{suspect_view, suspects_view}
 use Rattle.lsp_origins.specs.Rearranged.{alone, begins_behind, instead, put_in, rearranged, width}
-use Rattle.lsp_trail.specs.SentEdits.{SentEdits, sent_edits}
 use Rattle.lsp_origins.specs.declared.fits.Suspect.{Suspect}
 use Rattle.lsp_origins.specs.declared.rearranged.Way.{Way}
 use Rattle.lsp_origins.proofs.Fitting.{prefix_len-map}

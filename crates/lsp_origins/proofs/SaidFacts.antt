@@ -3,35 +3,27 @@ use Rattle.std.specs.Prelude.{◌⊎◌, ℤ, if◌then◌else◌, nat_lt}
 use Rattle.std.proofs.Common.{◌≡◌, ◌<◌, ◌≤◌, ◌++◌, [], ℕ, Bool, Bor, List, Some, None}
 use Rattle.std.proofs.Common.{append-nil, arith, false, inl, inr, refl, sym, ap, ◌∙◌, subst, true}
 use Rattle.std.proofs.lemmas.Bool.Decides.{nat_tests}
-use Rattle.lsp_docs.specs.Documents.{Terms}
+use Rattle.lsp_trail.specs.Common.{broken, content, Event, fault, IsSpoken, kept_of, MaySpeak}
+use Rattle.lsp_trail.specs.Common.{Message, message, message_view, notification, Numbered, numbered}
+use Rattle.lsp_trail.specs.Common.{offence, outline, Raw, raw_view, Reads, request, response}
+use Rattle.lsp_trail.specs.Common.{rest_of, Rests, said_at, Sent, sent_in, Side, snapshot, Spoken}
+use Rattle.lsp_trail.specs.Common.{Terms, Who}
 use Rattle.lsp_frame.specs.Front.{header_front}
-use Rattle.lsp_replay.specs.Telling.{IsSpoken, MaySpeak}
 use Rattle.lsp_rpc.specs.Act.{Act}
-use Rattle.lsp_rpc.specs.Message.{Message, request, notification, response}
-use Rattle.lsp_rpc.specs.Outline.{outline, without_params}
-use Rattle.lsp_rpc.specs.View.{message_view}
-use Rattle.lsp_rpc.specs.declared.act.Spoken.{Spoken}
+use Rattle.lsp_rpc.specs.Outline.{without_params}
 use Rattle.lsp_session.specs.Handshake.{open_initializes, settled_among}
 use Rattle.lsp_session.specs.OpenInitialize.{Initialize}
 use Rattle.lsp_session.specs.Rules.{rule_after}
-use Rattle.lsp_session.specs.Sent.{Sent}
-use Rattle.lsp_types.specs.declared.side.Side.{Side}
-use Rattle.lsp_verdict.specs.Event.{Event, message, fault, sent_in, snapshot}
-use Rattle.lsp_verdict.specs.Heard.{Rests, behind_at, rest_of}
-use Rattle.lsp_verdict.specs.Given.{raw_view}
-use Rattle.lsp_verdict.specs.Offences.{kept_of, said_at}
-use Rattle.lsp_verdict.specs.Placed.{Raw, Reads, broken, content}
-use Rattle.lsp_verdict.specs.Verdict.{document_rule, offence}
+use Rattle.lsp_verdict.specs.Heard.{behind_at}
+use Rattle.lsp_verdict.specs.Verdict.{document_rule}
 use Rattle.lsp_verdict.specs.declared.raw.Raw as lent
 use Rattle.lsp_verdict.specs.declared.raw.Raw.TheVariants as lents
-use Rattle.lsp_verdict.specs.declared.verdict.Who.{Who}
 use Rattle.lsp_facts.specs.EventFacts.{content_facts, AreCallFacts, AreFacts, AreFactsBy}
 use Rattle.lsp_facts.specs.EventFacts.{frame_facts, header_facts, id_in, session_facts}
 use Rattle.lsp_facts.specs.Fact.{Fact, bare_event, content_event, event_line, message_event}
 use Rattle.lsp_facts.proofs.CallBreaks.{by_rule}
 use Rattle.lsp_facts.proofs.SomeFacts.{id_in-outline, message_named, same_line}
 use Rattle.lsp_trail.proofs.SessionSteps.{alike}
-use Rattle.lsp_trail.specs.Asking.{Numbered, numbered}
 use Rattle.lsp_origins.specs.Traced.{AreTraced, earlier_at, said_traced, session_trace, traced}
 
 module _ (terms : Terms) (before : List Event) (rule : ℕ) where

@@ -2,41 +2,27 @@
 use Rattle.std.proofs.Common.{◌≡◌, ◌<◌, ℕ, Bool, List, [], ◌++◌, Option, sym, ap, ◌∙◌, arith, ◌+◌}
 use Rattle.std.proofs.Common.{◌^◌, ◌∷◌, length, Some, refl, Bor, subst, append_assoc}
 use Rattle.std.proofs.lemmas.List.{length-map}
-use Rattle.lsp_docs.specs.Documents.{Terms}
+use Rattle.lsp_trail.specs.Common.{Counted, Counts, decoder_of, Editor, Event, Fate, HasFate, Heard}
+use Rattle.lsp_trail.specs.Common.{heard_events, Holds, IsSeen, IsTrail, kept_of, LogEvents, no}
+use Rattle.lsp_trail.specs.Common.{no_by, notes_of, offence_view, place_of, Raw, report, rest_of}
+use Rattle.lsp_trail.specs.Common.{Rests, rule_of, Server, ShowsFault, Side, StandsAfter, Stood}
+use Rattle.lsp_trail.specs.Common.{Terms, Tried, Who}
 use Rattle.lsp_docs.specs.State as docs
-use Rattle.lsp_docs.specs.declared.tried.Tried.{Tried}
 use Rattle.lsp_session.specs.State as session
-use Rattle.lsp_types.specs.declared.side.Side.{Side}
-use Rattle.lsp_types.specs.declared.side.Side.TheVariants.{Editor, Server}
-use Rattle.lsp_verdict.specs.Event.{Event}
-use Rattle.lsp_verdict.specs.Offences.{kept_of, Noted}
-use Rattle.lsp_verdict.specs.Given.{offence_view}
-use Rattle.lsp_verdict.specs.Heard.{Heard, Rests, heard_events, notes_of, rest_of}
+use Rattle.lsp_verdict.specs.Offences.{Noted}
 use Rattle.lsp_verdict.specs.Offences as spec
-use Rattle.lsp_verdict.specs.Placed.{Raw}
-use Rattle.lsp_verdict.specs.Report.{report}
-use Rattle.lsp_verdict.specs.Verdict.{belongs_to, count_of, no, no_by, whose}
-use Rattle.lsp_verdict.specs.declared.counts.Counts.{Counts}
+use Rattle.lsp_verdict.specs.Verdict.{belongs_to, count_of, whose}
 use Rattle.lsp_verdict.specs.declared.offence.Offence.{Offence}
-use Rattle.lsp_verdict.specs.declared.verdict.Who.{Who}
 use Rattle.lsp_verdict.proofs.EventCounts.{count_few}
 use Rattle.lsp_verdict.proofs.ExactCounts.{capped_is}
 use Rattle.lsp_verdict.proofs.Offences.Steps.{kept-refused}
-use Rattle.lsp_replay.specs.Lines.{place_of}
-use Rattle.lsp_replay.specs.Standing.{Holds}
-use Rattle.lsp_replay.specs.Streams.{decoder_of}
-use Rattle.lsp_replay.specs.Telling.{HasFate, IsSeen, ShowsFault, Stood, rule_of}
-use Rattle.lsp_replay.specs.declared.log_events.LogEvents.{LogEvents}
-use Rattle.lsp_replay.specs.declared.seen.Fate.{Fate}
 use Rattle.lsp_replay.specs.declared.seen.Fate.TheVariants as fates
 use Rattle.lsp_replay.specs.declared.seen.Seen.{Seen}
 use Rattle.lsp_replay.proofs.Seeing.{events-push}
 use Rattle.lsp_facts.specs.Fact.{Fact, detail_lines, event_line, usual_of}
 use Rattle.lsp_facts.specs.EventFacts.{AreFacts}
-use Rattle.lsp_lined.specs.Counted.{Counted}
 use Rattle.lsp_origins.specs.Traced.{earlier_at, traced, AreTraced}
 use Rattle.lsp_origins.specs.Explained.{place_in, TellsOf, rests_held}
-use Rattle.lsp_trail.specs.Trails.{StandsAfter, IsTrail}
 use Rattle.lsp_trail.specs.declared.trail.Past.{Past}
 
 -- ---- what is told of an event that offends

@@ -2,19 +2,14 @@
 use Rattle.std.specs.Prelude.{ℤ, int_lt, if◌then◌else◌, MatchOption, option_to_list}
 use Rattle.std.proofs.Common.{◌≡◌, ℕ, Bool, true, false, List, [], ◌∷◌, ◌++◌, Option, Some, None}
 use Rattle.std.proofs.Common.{refl, sym, ap, ◌∙◌, append-nil, append_assoc, subst}
-use Rattle.lsp_types.specs.declared.position.Encoding.{Encoding}
-use Rattle.lsp_docs.specs.Calls.{Call, Text}
-use Rattle.lsp_docs.specs.Documents.{Terms, Version}
+use Rattle.lsp_trail.specs.Common.{are_few, Call, Encoding, Event, EventPlace, if_later, later}
+use Rattle.lsp_trail.specs.Common.{SentEdits, ShownText, Terms, Text, Version}
 use Rattle.lsp_facts.specs.DocumentFacts.{fits_fact}
 use Rattle.lsp_facts.specs.Fact.{Fact}
 use Rattle.lsp_facts.specs.TwoTexts.{TwoTexts}
-use Rattle.lsp_replay.specs.declared.heard.EventPlace.{EventPlace}
-use Rattle.lsp_verdict.specs.Event.{Event}
-use Rattle.lsp_trail.specs.Bases.{HoldsAny, base_in, later, sent_in, text_in}
+use Rattle.lsp_trail.specs.Bases.{HoldsAny, base_in, sent_in, text_in}
 use Rattle.lsp_origins.specs.Fits.{if_named, own_edits, reached, suspected}
-use Rattle.lsp_trail.specs.SentEdits.{SentEdits, are_few}
 use Rattle.lsp_origins.specs.Told.{fitting_any, setters_until, taken_any, told, told_facts, told_of}
-use Rattle.lsp_trail.specs.Uncompared.{ShownText, if_later}
 use Rattle.lsp_origins.specs.declared.suspects.Until.{Until}
 use Rattle.lsp_origins.specs.declared.suspects.Until.TheVariants as until
 use Rattle.lsp_trail.specs.declared.base.Base.{Base}

@@ -4,24 +4,17 @@ use Rattle.std.specs.Prelude.{◌≡◌, ℕ, List, [], ◌∷◌, ◌++◌, ◌
 use Rattle.std.specs.Prelude.{Some, Bool, not, None}
 use Rattle.std.specs.List.{flat_map}
 use Rattle.lsp_types.specs.declared.rules.TheConstants as rules
-use Rattle.lsp_docs.specs.Documents.{Terms}
-use Rattle.lsp_verdict.specs.Heard.{Rests, notes_of, rest_of, Heard, heard_events}
-use Rattle.lsp_verdict.specs.Offences.{Offence, events_of, kept_of, follows}
-use Rattle.lsp_verdict.specs.Placed.{Raw}
-use Rattle.lsp_verdict.specs.Report.{report}
-use Rattle.lsp_verdict.specs.Survey.{first_verdict, bad_lines, found_line}
-use Rattle.lsp_verdict.specs.Verdict.{Verdict, yes, no, bad_log, Summary, no_by}
+use Rattle.lsp_trail.specs.Common.{bad_log, Breach, breach, End, EventPlace, events_of}
+use Rattle.lsp_trail.specs.Common.{first_verdict, flaw_of, Heard, heard_events, kept_of, LogEvents}
+use Rattle.lsp_trail.specs.Common.{no, no_by, notes_of, Numbered, Offence, Raw, report, rest_of}
+use Rattle.lsp_trail.specs.Common.{Rests, Summary, Terms, Verdict, yes}
+use Rattle.lsp_verdict.specs.Offences.{follows}
+use Rattle.lsp_verdict.specs.Survey.{bad_lines, found_line}
 use Rattle.lsp_verdict.specs.declared.offence.Offence as code
 use Rattle.lsp_facts.specs.EventFacts.{AreFacts, header_facts, side_by, flaw_facts}
 use Rattle.lsp_facts.specs.Fact.{Fact, detail_lines, event_line, end_event, usual, usual_inside}
 use Rattle.lsp_facts.specs.Fact.{usual_of}
-use Rattle.lsp_replay.specs.declared.heard.EventPlace.{EventPlace}
-use Rattle.lsp_replay.specs.LogEvents.{flaw_of}
-use Rattle.lsp_replay.specs.declared.log_events.End.{End}
-use Rattle.lsp_replay.specs.declared.log_events.LogEvents.{LogEvents}
 use Rattle.lsp_origins.specs.Traced.{AreTraced, earlier_at, lack_traced, traced}
-use Rattle.lsp_trail.specs.Asking.{Numbered}
-use Rattle.lsp_trail.specs.Breaches.{Breach, breach}
 use Rattle.lsp_log.specs.declared.fault.LogCode.{LogCode}
 use Rattle.lsp_log.specs.Reader.{shown_by}
 

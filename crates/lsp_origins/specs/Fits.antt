@@ -7,16 +7,9 @@ use Rattle.std.specs.Str.{chars}
 use Rattle.std.specs.List.{prefix_len}
 use Rattle.std.specs.Result.{result_ok}
 use Rattle.lsp_types.specs.declared.line_ends.LineEnds.{LineEnds}
-use Rattle.lsp_types.specs.declared.position.Encoding.{Encoding}
-use Rattle.lsp_types.specs.declared.position.Encoding.TheVariants.{Utf8, Utf16, Utf32}
-use Rattle.lsp_text.specs.Changes.{edits_of}
-use Rattle.lsp_text.specs.Edits.{Edit, applied}
-use Rattle.lsp_text.specs.Findings.{findings}
-use Rattle.lsp_text.specs.SameText.{same_text}
-use Rattle.lsp_docs.specs.Calls.{Call, Text, changes}
-use Rattle.lsp_docs.specs.Documents.{Terms, Version}
-use Rattle.lsp_trail.specs.Bases.{later}
-use Rattle.lsp_trail.specs.SentEdits.{SentEdits, are_few, sent_edits, sent_view, sents_view}
+use Rattle.lsp_trail.specs.Common.{applied, are_few, Call, changes, Edit, edits_of, Encoding}
+use Rattle.lsp_trail.specs.Common.{findings, later, same_text, sent_edits, sent_view, SentEdits}
+use Rattle.lsp_trail.specs.Common.{sents_view, Terms, Text, Utf16, Utf32, Utf8, Version}
 use Rattle.lsp_origins.specs.declared.fits.Suspect.{Suspect}
 use Rattle.lsp_origins.specs.declared.fits.Suspected.{Suspected}
 use Rattle.lsp_origins.specs.declared.fits.Trial.{Trial}

@@ -3,17 +3,11 @@ use Rattle.std.specs.Prelude.{ℕ, List, [], ◌∷◌, ◌==◌, ◌||◌, Bool
 use Rattle.std.specs.Prelude.{if◌then◌else◌, unwrap_or}
 use Rattle.std.specs.List.{flat_map}
 use Rattle.std.specs.Str.{bytes_eq}
-use Rattle.lsp_types.specs.declared.position.Encoding.{Encoding}
-use Rattle.lsp_types.specs.declared.position.Encoding.TheVariants.{Utf16}
+use Rattle.lsp_trail.specs.Common.{Encoding, encoding, encoding_name, Event, kept_of, line}
+use Rattle.lsp_trail.specs.Common.{older_encoding, sent_in, Terms, Utf16}
 use Rattle.lsp_types.specs.declared.rules.TheConstants as rules
-use Rattle.lsp_session.specs.Negotiation.{encoding}
-use Rattle.lsp_docs.specs.Documents.{Terms}
-use Rattle.lsp_verdict.specs.Event.{Event, sent_in}
-use Rattle.lsp_verdict.specs.Offences.{kept_of}
-use Rattle.lsp_verdict.specs.Report.{encoding_name, line}
 use Rattle.lsp_facts.specs.Fact.{Fact}
 use Rattle.lsp_origins.specs.Fits.{other_encodings}
-use Rattle.lsp_trail.specs.SessionNotes.{older_encoding}
 
 -- columns that count other units than agreed may break the rule
 abbrev pub is_of_columns : ℕ → Bool

@@ -4,19 +4,12 @@ use Rattle.std.specs.Prelude.{◌∷◌, codes, is_some, length, if◌then◌els
 use Rattle.std.specs.Prelude.{option_and_then, option_map, option_to_list}
 use Rattle.std.specs.List.{find, flat_map, list_any}
 use Rattle.std.specs.Str.{chars}
-use Rattle.lsp_types.specs.declared.position.Encoding.{Encoding}
-use Rattle.lsp_types.specs.declared.position.Position.{Position}
-use Rattle.lsp_types.specs.declared.position.Span.{Span}
-use Rattle.lsp_text.specs.Edits.{Edit, splice}
-use Rattle.lsp_text.specs.Findings.{text_extent}
+use Rattle.lsp_trail.specs.Common.{Edit, Encoding, line, Position, SentEdits, Span, splice, Terms}
+use Rattle.lsp_trail.specs.Common.{Text, text_extent}
 use Rattle.lsp_text.specs.Lines.{is_return, starts_with_feed}
 use Rattle.lsp_text.specs.Places.{place_of}
-use Rattle.lsp_docs.specs.Calls.{Text}
-use Rattle.lsp_docs.specs.Documents.{Terms}
-use Rattle.lsp_verdict.specs.Report.{line}
 use Rattle.lsp_facts.specs.Fact.{Fact}
 use Rattle.lsp_origins.specs.Fits.{is_made}
-use Rattle.lsp_trail.specs.SentEdits.{SentEdits}
 use Rattle.lsp_origins.specs.declared.fits.Trial.{Trial}
 use Rattle.lsp_origins.specs.declared.other_lines.LinesBy.{LinesBy}
 use Rattle.lsp_origins.specs.declared.other_lines.LinesBy.TheVariants.{EcmaScript, Lf, Python}

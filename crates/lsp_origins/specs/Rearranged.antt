@@ -4,13 +4,9 @@ use Rattle.std.specs.Prelude.{ℕ, ℤ, ◌+◌, ◌==◌, ◌&&◌, ◌||◌, n
 use Rattle.std.specs.Prelude.{◌∷◌, codes, map, reverse, slice_get, slice_range, Option, Some, None}
 use Rattle.std.specs.Prelude.{if◌then◌else◌, option_and_then, option_map, option_to_list, unwrap_or}
 use Rattle.std.specs.List.{enumerate_from, find, flat_map, fold, insert, prefix_len, replace_range}
-use Rattle.lsp_types.specs.declared.position.Position.{Position}
-use Rattle.lsp_types.specs.declared.position.Span.{Span}
-use Rattle.lsp_text.specs.Edits.{Edit}
-use Rattle.lsp_replay.specs.declared.heard.EventPlace.{EventPlace}
+use Rattle.lsp_trail.specs.Common.{Edit, EventPlace, is_set_to, Position, sent_edits, SentEdits}
+use Rattle.lsp_trail.specs.Common.{Span}
 use Rattle.lsp_facts.specs.Fact.{Fact, version_by}
-use Rattle.lsp_trail.specs.Marking.{is_set_to}
-use Rattle.lsp_trail.specs.SentEdits.{SentEdits, sent_edits}
 use Rattle.lsp_origins.specs.declared.rearranged.Way.{Way}
 use Rattle.lsp_origins.specs.declared.rearranged.Way.TheVariants.{AtOnce, Exchanged, Without}
 use Rattle.lsp_trail.specs.declared.mark.VersionEvent.{VersionEvent}

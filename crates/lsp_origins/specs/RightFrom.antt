@@ -1,15 +1,10 @@
 -- From which snapshot on the suspects make the text that the editor had.
 use Rattle.std.specs.Prelude.{Bool, List, [], ◌∷◌, codes, if◌then◌else◌, Option, Some, None}
 use Rattle.std.specs.Str.{chars}
-use Rattle.lsp_types.specs.declared.position.Encoding.{Encoding}
-use Rattle.lsp_docs.specs.Calls.{Text}
-use Rattle.lsp_docs.specs.Documents.{Terms}
+use Rattle.lsp_trail.specs.Common.{Encoding, later, SentEdits, ShownText, Terms, Text}
 use Rattle.lsp_facts.specs.Fact.{Fact, version_by}
-use Rattle.lsp_trail.specs.Bases.{later}
 use Rattle.lsp_origins.specs.Fits.{is_given}
 use Rattle.lsp_origins.specs.Rearranged.{some_give}
-use Rattle.lsp_trail.specs.SentEdits.{SentEdits}
-use Rattle.lsp_trail.specs.Uncompared.{ShownText}
 use Rattle.lsp_origins.specs.declared.fits.Trial.{Trial}
 
 -- **the messages after its version make the other text of the one that it has**, if there are some

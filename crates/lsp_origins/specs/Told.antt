@@ -1,28 +1,24 @@
 -- What is said of the suspects that would make the texts equal.
 use Rattle.std.specs.Prelude.{ℕ, List, [], ◌∷◌, ◌++◌, Option, Some}
 use Rattle.std.specs.Str.{chars}
-use Rattle.lsp_types.specs.declared.position.Encoding.{Encoding}
-use Rattle.lsp_docs.specs.Calls.{Call, Text, uri_of}
-use Rattle.lsp_docs.specs.Documents.{Terms, Version}
-use Rattle.lsp_verdict.specs.Event.{calls, Event}
-use Rattle.lsp_verdict.specs.Offences.{kept_of}
+use Rattle.lsp_trail.specs.Common.{agreed_encoding, Call, calls, Encoding, Event, if_later, kept_of}
+use Rattle.lsp_trail.specs.Common.{recent, SentEdits, ShownText, steps, Terms, Text, uri_of}
+use Rattle.lsp_trail.specs.Common.{Version}
 use Rattle.lsp_facts.specs.DocumentFacts.{fits_fact}
 use Rattle.lsp_facts.specs.Fact.{Fact}
 use Rattle.lsp_facts.specs.TwoTexts.{TwoTexts, texts_of}
 use Rattle.lsp_trail.specs.Bases.{base_at, sent_since}
 use Rattle.lsp_origins.specs.Fits.{fitting, is_given, suspected}
-use Rattle.lsp_trail.specs.Marking.{at_version, recent, steps}
+use Rattle.lsp_trail.specs.Marking.{at_version}
 use Rattle.lsp_origins.specs.OtherLines.{lines_facts}
 use Rattle.lsp_origins.specs.Rearranged.{rearranged_facts}
 use Rattle.lsp_origins.specs.RightFrom.{right_from_facts}
-use Rattle.lsp_trail.specs.SentEdits.{SentEdits}
-use Rattle.lsp_trail.specs.Uncompared.{ShownText, if_later, uncompared}
+use Rattle.lsp_trail.specs.Uncompared.{uncompared}
 use Rattle.lsp_origins.specs.declared.fits.Trial.{Trial}
 use Rattle.lsp_origins.specs.declared.rearranged.Way.TheVariants.{AtOnce, Exchanged, Without}
 use Rattle.lsp_origins.specs.declared.suspects.Until.{Until}
 use Rattle.lsp_origins.specs.declared.suspects.Until.TheVariants as until
 use Rattle.lsp_trail.specs.declared.mark.VersionEvent.{VersionEvent}
-use Rattle.lsp_trail.specs.Trails.{agreed_encoding}
 
 -- ---- the messages that may be named
 

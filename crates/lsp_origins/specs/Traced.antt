@@ -10,45 +10,38 @@ use Rattle.std.specs.Str.Parse.{signed_digits_value}
 use Rattle.std.specs.List.{prefix_len, flat_map}
 use Rattle.std.specs.Int.{int_gap}
 use Rattle.lsp_rpc.specs.Ident as ident
-use Rattle.lsp_rpc.specs.Ident.{Ident}
+use Rattle.lsp_trail.specs.Common.{asked, Call, calls, changes, closing_of, closings, Edit, Editor}
+use Rattle.lsp_trail.specs.Common.{Event, EventPlace, fault, Ident, is_set_to, is_standing, kept_of}
+use Rattle.lsp_trail.specs.Common.{last_change, last_ones, last_openings, last_setter, line}
+use Rattle.lsp_trail.specs.Common.{message, Numbered, numbered, OnDocument, opens, other_side}
+use Rattle.lsp_trail.specs.Common.{phase, place_of, recent, said_at, sents, shows, Side, since}
+use Rattle.lsp_trail.specs.Common.{snapshot, steps, Terms, uri_of}
 use Rattle.lsp_rpc.specs.Shape.{small}
 use Rattle.lsp_rpc.specs.Words.{id_text}
-use Rattle.lsp_docs.specs.Calls.{Call, opens, changes, shows, uri_of}
-use Rattle.lsp_docs.specs.Documents.{Terms}
-use Rattle.lsp_text.specs.Edits.{Edit}
-use Rattle.lsp_replay.specs.declared.heard.EventPlace.{EventPlace}
-use Rattle.lsp_replay.specs.Lines.{place_of}
 use Rattle.lsp_facts.specs.Fact.{Fact, version_by, cited, place_words, in_phase, waits}
 use Rattle.lsp_facts.specs.EventFacts.{id_in}
 use Rattle.lsp_facts.specs.declared.earlier.Earlier.{Earlier}
 use Rattle.lsp_facts.specs.Refuting.{refuting}
-use Rattle.lsp_verdict.specs.Report.{line}
-use Rattle.lsp_verdict.specs.Event.{calls, Event, message, fault, snapshot}
-use Rattle.lsp_verdict.specs.Offences.{kept_of, is_within, said_at}
+use Rattle.lsp_verdict.specs.Offences.{is_within}
 use Rattle.lsp_verdict.specs.Spelling.{folded}
 use Rattle.json.specs.Print.{quoted}
 use Rattle.lsp_types.specs.declared.rules.TheConstants as rules
-use Rattle.lsp_types.specs.declared.side.Side.{Side}
-use Rattle.lsp_types.specs.declared.side.Side.TheVariants.{Editor}
 use Rattle.lsp_session.specs.Entry.{Entry}
-use Rattle.lsp_session.specs.Handshake.{phase}
 use Rattle.lsp_session.specs.Requests.{open_requests}
-use Rattle.lsp_session.specs.Sent.{other_side}
 use Rattle.lsp_origins.specs.Fits.{most_named}
-use Rattle.lsp_trail.specs.History.{last_ones, OnDocument, KeptCall}
-use Rattle.lsp_trail.specs.Marking.{next_rank, rank_or, agreed, last_setter, recent, steps}
-use Rattle.lsp_trail.specs.Marking.{is_set_to, waiting_for}
+use Rattle.lsp_trail.specs.History.{KeptCall}
+use Rattle.lsp_trail.specs.Marking.{next_rank, rank_or, agreed}
+use Rattle.lsp_trail.specs.Marking.{waiting_for}
 use Rattle.lsp_trail.specs.declared.mark.VersionEvent.{VersionEvent}
 use Rattle.lsp_origins.specs.declared.suspects.Until.{Until}
 use Rattle.lsp_origins.specs.declared.suspects.Until.TheVariants as until
 use Rattle.lsp_origins.specs.OlderEncoding.{older_traced}
-use Rattle.lsp_trail.specs.Openings.{closing_of, closings}
 use Rattle.lsp_trail.specs.Saves.{saved_unopened}
-use Rattle.lsp_trail.specs.LastChange.{SentChange, has_changes, last_change}
+use Rattle.lsp_trail.specs.LastChange.{SentChange, has_changes}
 use Rattle.lsp_trail.specs.declared.openings.Closing.{Closing}
 use Rattle.lsp_trail.specs.declared.openings.Closing.TheVariants as closing
-use Rattle.lsp_trail.specs.Asking.{Numbered, answered, asked, numbered, sents, since}
-use Rattle.lsp_trail.specs.Spelled.{is_spelled, is_standing, last_openings}
+use Rattle.lsp_trail.specs.Asking.{answered}
+use Rattle.lsp_trail.specs.Spelled.{is_spelled}
 use Rattle.lsp_origins.specs.Told.{told_facts}
 
 -- ---- ids that differ in their type alone

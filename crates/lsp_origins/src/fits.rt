@@ -2,11 +2,10 @@
 //! had.
 ghost use Rattle.std.specs.Prelude.{◌≡◌, ◌≤◌, ◌++◌, ◌∷◌, [], true, IfOk, OnOk, MatchOption, length};
 ghost use Rattle.std.specs.List.{prefix_len};
-ghost use Rattle.lsp_docs.specs.Taken.{call_view};
+ghost use Rattle.lsp_trail.specs.Common.{are_few, call_view, edits_of, sent_edits, sent_view};
+ghost use Rattle.lsp_trail.specs.Common.{sents_view};
 ghost use Rattle.lsp_facts.specs.DocumentFacts.{fits_fact};
-ghost use Rattle.lsp_text.specs.Changes.{edits_of};
 ghost use Rattle.lsp_trail.specs.Bases.{sent_in};
-ghost use Rattle.lsp_trail.specs.SentEdits.{are_few, sent_edits, sent_view, sents_view};
 ghost use Rattle.lsp_origins.specs.Fits as spec;
 ghost use Rattle.lsp_origins.specs.Fits.{suspected_view, suspects_view, text_if};
 

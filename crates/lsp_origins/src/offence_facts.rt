@@ -1,25 +1,14 @@
 //! What is said about an offence: the report of its No, the line that names its event, and the
 //! facts on it.
 ghost use Rattle.std.specs.Prelude.{◌≡◌, ◌++◌, ℕ, List, Some, IfOk, OnOk, option_map, string_bytes};
-ghost use Rattle.lsp_docs.specs.Documents.{Terms};
-ghost use Rattle.lsp_docs.specs.Taken.{call_view};
-ghost use Rattle.lsp_replay.specs.LogEvents.{flaw_of};
-ghost use Rattle.lsp_replay.specs.Lines.{place_of};
-ghost use Rattle.lsp_replay.specs.Telling.{HasFate, IsSeen, MaySpeak, ShowsFault};
-ghost use Rattle.lsp_replay.specs.Tries.{TriesCall, made_in};
-ghost use Rattle.lsp_replay.specs.declared.seen.Fate.TheVariants.{Offends};
-ghost use Rattle.lsp_trail.specs.Asking.{numbered};
-ghost use Rattle.lsp_verdict.specs.Event.{Event};
-ghost use Rattle.lsp_verdict.specs.Given.{offence_view, raw_view};
-ghost use Rattle.lsp_verdict.specs.Heard.{Heard, Rests, heard_events, rest_of};
-ghost use Rattle.lsp_verdict.specs.Offences.{kept_of, rule_at, said_at};
-ghost use Rattle.lsp_verdict.specs.Placed.{Reads};
-ghost use Rattle.lsp_verdict.specs.Report.{report};
-ghost use Rattle.lsp_verdict.specs.Verdict.{bad_log_of, no, no_by};
-ghost use Rattle.lsp_verdict.specs.declared.verdict.Who.{Who};
+ghost use Rattle.lsp_trail.specs.Common.{bad_log_of, call_view, Event, flaw_of, HasFate, Heard};
+ghost use Rattle.lsp_trail.specs.Common.{heard_events, IsSeen, IsTrail, kept_of, made_in, MaySpeak};
+ghost use Rattle.lsp_trail.specs.Common.{no, no_by, numbered, offence_view, Offends, place_of};
+ghost use Rattle.lsp_trail.specs.Common.{raw_view, Reads, report, rest_of, Rests, rule_at, said_at};
+ghost use Rattle.lsp_trail.specs.Common.{ShowsFault, StandsAfter, Terms, terms_in, Who};
+ghost use Rattle.lsp_replay.specs.Tries.{TriesCall};
 ghost use Rattle.lsp_origins.specs.Explained.{cause_lines, end_explained, end_facts, end_usually};
 ghost use Rattle.lsp_origins.specs.Explained.{flaw_lines, place_in, TellsOf, flaw_held, rests_held};
-ghost use Rattle.lsp_trail.specs.Trails.{StandsAfter, terms_in, IsTrail};
 ghost use Rattle.lsp_origins.specs.Traced.{AreTraced, earlier_at, traced};
 ghost use Rattle.lsp_facts.specs.EventFacts.{AreFacts, side_by};
 ghost use Rattle.lsp_facts.specs.Fact.{event_line};

@@ -1,8 +1,7 @@
 //! Which encoding the server named in the older way, where columns may count its units.
 ghost use Rattle.std.specs.Prelude.{◌≡◌, ◌++◌, List, OnOk, option_map};
 ghost use Rattle.lsp_origins.specs.OlderEncoding as spec;
-ghost use Rattle.lsp_trail.specs.Trails.{StandsAfter, terms_in};
-ghost use Rattle.lsp_verdict.specs.Event.{Event};
+ghost use Rattle.lsp_trail.specs.Common.{Event, StandsAfter, terms_in};
 
 use crate::fits::others;
 use lsp_facts::Facts;

@@ -3,8 +3,7 @@ ghost use Rattle.std.specs.Prelude.{◌≡◌, ◌++◌, false, IfOk, OnOk, leng
 ghost use Rattle.std.specs.Prelude.{if◌then◌else◌, option_map, string_bytes};
 ghost use Rattle.std.specs.List.{find, list_any};
 ghost use Rattle.std.specs.Str.{chars};
-ghost use Rattle.lsp_text.specs.Changes.{edit_of, edits_of};
-ghost use Rattle.lsp_text.specs.Edits.{splice};
+ghost use Rattle.lsp_trail.specs.Common.{edit_of, edits_of, splice};
 ghost use Rattle.lsp_origins.specs.Fits.{suspects_view};
 ghost use Rattle.lsp_origins.specs.OtherLines as spec;
 ghost use Rattle.lsp_origins.specs.OtherLines.{edits_in};

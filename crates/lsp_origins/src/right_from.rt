@@ -1,9 +1,8 @@
 //! From which snapshot on the suspects make the text that the editor had.
 ghost use Rattle.std.specs.Prelude.{◌≡◌, ◌++◌, ◌∷◌, [], IfOk, OnOk, option_map};
-ghost use Rattle.lsp_trail.specs.Bases.{later};
+ghost use Rattle.lsp_trail.specs.Common.{later, shown_view};
 ghost use Rattle.lsp_origins.specs.Fits.{suspect_view, suspects_view};
 ghost use Rattle.lsp_origins.specs.RightFrom as spec;
-ghost use Rattle.lsp_trail.specs.Uncompared.{shown_view};
 
 use crate::fits::{Suspect, Trial, gives};
 use lsp_facts::Facts;

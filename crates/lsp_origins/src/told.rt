@@ -1,17 +1,11 @@
 //! What is said of the suspects that would make the texts equal.
 ghost use Rattle.std.specs.Prelude.{◌≡◌, ◌++◌, List, Some, IfOk, OnOk, option_map};
-ghost use Rattle.lsp_docs.specs.Documents.{Terms};
-ghost use Rattle.lsp_docs.specs.Rules.{call_rule};
-ghost use Rattle.lsp_docs.specs.Taken.{call_view};
+ghost use Rattle.lsp_trail.specs.Common.{AreMarks, call_rule, call_view, calls, Event, kept_of};
+ghost use Rattle.lsp_trail.specs.Common.{made_in, recent, shown_view, StandsAfter, steps, Terms};
+ghost use Rattle.lsp_trail.specs.Common.{terms_in};
 ghost use Rattle.lsp_docs.specs.Tried.{IsTried};
-ghost use Rattle.lsp_replay.specs.Tries.{made_in};
-ghost use Rattle.lsp_verdict.specs.Event.{calls, Event};
-ghost use Rattle.lsp_verdict.specs.Offences.{kept_of};
 ghost use Rattle.lsp_origins.specs.Fits.{suspects_view};
-ghost use Rattle.lsp_trail.specs.Marking.{AreMarks, recent, steps};
 ghost use Rattle.lsp_origins.specs.Told as spec;
-ghost use Rattle.lsp_trail.specs.Trails.{StandsAfter, terms_in};
-ghost use Rattle.lsp_trail.specs.Uncompared.{shown_view};
 
 use crate::fits::{Suspect, Trial, listed, push_fitting, suspects_of};
 use crate::other_lines::push_lines_by;

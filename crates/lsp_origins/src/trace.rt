@@ -1,28 +1,17 @@
 //! Which events led to an offence: lines that name earlier events.
 ghost use Rattle.std.specs.Prelude.{◌≡◌, ◌++◌, ◌∷◌, [], List, Some, IfOk, OnOk, codes, map};
 ghost use Rattle.std.specs.Prelude.{option_map};
-ghost use Rattle.lsp_docs.specs.Calls.{uri_of};
-ghost use Rattle.lsp_docs.specs.Documents.{Terms};
-ghost use Rattle.lsp_docs.specs.Rules.{call_rule};
-ghost use Rattle.lsp_docs.specs.Taken.{call_view};
+ghost use Rattle.lsp_trail.specs.Common.{AreMarks, call_rule, call_view, calls, Event, id_view};
+ghost use Rattle.lsp_trail.specs.Common.{IsSpoken, IsTriedOf, kept_of, made_in, message_view};
+ghost use Rattle.lsp_trail.specs.Common.{numbered, other_side, place_of, said_at, sent_in};
+ghost use Rattle.lsp_trail.specs.Common.{StandsAfter, steps, Terms, terms_in, uri_of};
 ghost use Rattle.lsp_docs.specs.Tried.{IsTried};
-ghost use Rattle.lsp_rpc.specs.Ident.{id_view};
-ghost use Rattle.lsp_rpc.specs.View.{message_view};
 ghost use Rattle.lsp_session.specs.Entry.{request_view};
-ghost use Rattle.lsp_session.specs.Sent.{other_side};
 ghost use Rattle.lsp_types.specs.declared.rules.TheConstants as rules;
-ghost use Rattle.lsp_verdict.specs.Event.{Event, calls, sent_in};
 ghost use Rattle.lsp_verdict.specs.Verdict.{document_rule};
-ghost use Rattle.lsp_replay.specs.Lines.{place_of};
-ghost use Rattle.lsp_replay.specs.Telling.{IsSpoken};
-ghost use Rattle.lsp_replay.specs.Tries.{IsTriedOf, made_in};
-ghost use Rattle.lsp_verdict.specs.Offences.{kept_of, said_at};
-ghost use Rattle.lsp_trail.specs.Asking.{numbered};
-ghost use Rattle.lsp_trail.specs.Marking.{steps, AreMarks};
 ghost use Rattle.lsp_trail.specs.Conversations.{IsConversation};
 ghost use Rattle.lsp_facts.specs.EventFacts.{AreCallFacts, id_in, session_facts};
 ghost use Rattle.lsp_facts.specs.Fact.{cited};
-ghost use Rattle.lsp_trail.specs.Trails.{StandsAfter, terms_in};
 ghost use Rattle.lsp_origins.specs.Traced as spec;
 ghost use Rattle.lsp_origins.specs.Traced.{twin};
 

@@ -1,12 +1,8 @@
 //! What is said about a document that is not open.
 ghost use Rattle.std.specs.Prelude.{◌≡◌, ◌++◌, List, OnOk};
 ghost use Rattle.std.specs.List.{flat_map};
-ghost use Rattle.lsp_docs.specs.Calls.{uri_of};
-ghost use Rattle.lsp_docs.specs.Taken.{call_view};
-ghost use Rattle.lsp_trail.specs.Openings.{on_view, ons_view};
-ghost use Rattle.lsp_verdict.specs.Event.{Event};
-ghost use Rattle.lsp_trail.specs.Trails.{StandsAfter, terms_in};
-ghost use Rattle.lsp_trail.specs.Spelled.{is_standing};
+ghost use Rattle.lsp_trail.specs.Common.{call_view, Event, is_standing, on_view, ons_view};
+ghost use Rattle.lsp_trail.specs.Common.{StandsAfter, terms_in, uri_of};
 ghost use Rattle.lsp_origins.specs.Traced as spec;
 
 use lsp_docs::Call;

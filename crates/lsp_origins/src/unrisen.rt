@@ -1,14 +1,10 @@
 //! What is said about a version that does not rise.
 ghost use Rattle.std.specs.Prelude.{◌≡◌, ◌≤◌, ◌++◌, List, OnOk, Some, length};
 ghost use Rattle.std.specs.List.{prefix_len};
-ghost use Rattle.lsp_docs.specs.Documents.{Terms};
-ghost use Rattle.lsp_docs.specs.Taken.{call_view};
-ghost use Rattle.lsp_trail.specs.Marking.{is_set_to, last_setter, recent, steps};
-ghost use Rattle.lsp_trail.specs.LastChange.{IsLastChange, last_change};
+ghost use Rattle.lsp_trail.specs.Common.{call_view, edits_of, Event, is_set_to, last_change};
+ghost use Rattle.lsp_trail.specs.Common.{last_setter, recent, StandsAfter, steps, Terms, terms_in};
+ghost use Rattle.lsp_trail.specs.LastChange.{IsLastChange};
 ghost use Rattle.lsp_origins.specs.Traced as spec;
-ghost use Rattle.lsp_trail.specs.Trails.{StandsAfter, terms_in};
-ghost use Rattle.lsp_text.specs.Changes.{edits_of};
-ghost use Rattle.lsp_verdict.specs.Event.{Event};
 
 use lsp_docs::Call;
 use lsp_facts::Facts;

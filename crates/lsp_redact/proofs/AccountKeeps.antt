@@ -2,29 +2,21 @@
 use Rattle.std.proofs.Common.{◌≡◌, ℕ, List, [], ◌∷◌, ◌++◌, Option, Some, None, sym, ap, subst, ◌∙◌}
 use Rattle.std.specs.Borrow.{Bor}
 use Rattle.std.specs.Prelude.{if◌then◌else◌, is_some, not, option_map}
-use Rattle.lsp_docs.specs.Documents.{Terms}
+use Rattle.lsp_replay.specs.Common.{call_at, call_view, calls, Counted, Counts, Event, first_no}
+use Rattle.lsp_replay.specs.Common.{HasFate, Heard, heard_events, Holds, is_empty, IsSeen}
+use Rattle.lsp_replay.specs.Common.{kept_before, kept_of, made_in, MaySpeak, offence}
+use Rattle.lsp_replay.specs.Common.{open_initializes, Reads, rule_of, Sent, sent_in, Terms}
+use Rattle.lsp_replay.specs.Common.{TriesCall}
 use Rattle.lsp_docs.specs.State as docs
-use Rattle.lsp_docs.specs.Taken.{call_view}
 use Rattle.lsp_docs.specs.declared.tried.Tried.{Tried}
-use Rattle.lsp_session.specs.Handshake.{is_empty, open_initializes}
-use Rattle.lsp_session.specs.Sent.{Sent}
 use Rattle.lsp_session.specs.State as session
-use Rattle.lsp_replay.specs.Standing.{Holds}
-use Rattle.lsp_replay.specs.Telling.{HasFate, IsSeen, MaySpeak, kept_before, rule_of}
-use Rattle.lsp_replay.specs.Tries.{TriesCall, made_in}
 use Rattle.lsp_replay.specs.declared.seen.Fate.{Fate}
 use Rattle.lsp_replay.specs.declared.seen.Fate.TheVariants.{Offends}
 use Rattle.lsp_replay.specs.declared.seen.Seen.{Seen}
 use Rattle.lsp_replay.proofs.AllHeard.{first_after, none_is}
 use Rattle.lsp_replay.proofs.Seeing.{events-push}
-use Rattle.lsp_lined.specs.Counted.{Counted}
-use Rattle.lsp_verdict.specs.Event.{Event, call_at, calls, sent_in}
 use Rattle.lsp_verdict.specs.Given.{raw_view}
-use Rattle.lsp_verdict.specs.Heard.{Heard, heard_events}
-use Rattle.lsp_verdict.specs.Offences.{kept_of}
-use Rattle.lsp_verdict.specs.Placed.{Raw, Reads}
-use Rattle.lsp_verdict.specs.Verdict.{first_no, offence}
-use Rattle.lsp_verdict.specs.declared.counts.Counts.{Counts}
+use Rattle.lsp_verdict.specs.Placed.{Raw}
 use Rattle.lsp_verdict.proofs.Offences.Offending.{all_are_kept, kept_more}
 use Rattle.lsp_redact.specs.Kept.{awaits}
 use Rattle.lsp_redact.specs.Redacting.{apart_at}

@@ -4,24 +4,19 @@ use Rattle.std.proofs.Common.{Option, Some, None, refl, sym, ap, subst, ◌∙�
 use Rattle.std.specs.Prelude.{is_some, option_to_list}
 use Rattle.std.specs.List.{cons_option, flat_map}
 use Rattle.std.proofs.lemmas.Grind.{flat_map-append}
-use Rattle.lsp_docs.specs.Documents.{Terms}
-use Rattle.lsp_frame.specs.Bounds.{Bounds}
-use Rattle.lsp_frame.specs.declared.format.Format.{Format}
+use Rattle.lsp_replay.specs.Common.{Bounds, Closes, Event, first_line, Format, Heard, heard_events}
+use Rattle.lsp_replay.specs.Common.{IsEnd, no_by, Rests, rule_at, rule_of, spelling, Tail, Terms}
 use Rattle.lsp_judge.specs.JudgingRun.{verdict_of}
-use Rattle.lsp_log.specs.Log.{Record, first_line, spelling}
-use Rattle.lsp_replay.specs.Run.{Tail}
-use Rattle.lsp_replay.specs.Telling.{Closes, IsEnd, Says, rule_of}
+use Rattle.lsp_log.specs.Log.{Record}
+use Rattle.lsp_replay.specs.Telling.{Says}
 use Rattle.lsp_replay.specs.declared.log_events.End.{End}
 use Rattle.lsp_replay.specs.declared.log_events.LogEvents.{LogEvents}
 use Rattle.lsp_replay.specs.declared.seen.Flow.TheVariants.{GoOn, Stop}
 use Rattle.lsp_replay.proofs.AllHeard.{first_after, none_is}
 use Rattle.lsp_replay.proofs.PassEnds.{Boxed}
 use Rattle.lsp_replay.proofs.Seeing.{events-push}
-use Rattle.lsp_verdict.specs.Event.{Event}
-use Rattle.lsp_verdict.specs.Heard.{Heard, Rests, heard_events}
-use Rattle.lsp_verdict.specs.Offences.{rule_at}
 use Rattle.lsp_verdict.specs.Placed.{Raw}
-use Rattle.lsp_verdict.specs.Verdict.{Verdict, no_by}
+use Rattle.lsp_verdict.specs.Verdict.{Verdict}
 use Rattle.lsp_verdict.specs.declared.completeness.Completeness.TheVariants.{Ignored}
 use Rattle.lsp_verdict.specs.declared.outcome.Outcome.{Outcome}
 use Rattle.lsp_verdict.specs.declared.outcome.Outcome.TheVariants.{Done}

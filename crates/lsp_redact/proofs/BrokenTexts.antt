@@ -8,20 +8,19 @@ use Rattle.std.specs.Prelude.{not, option_and_then}
 use Rattle.serde_json.specs.Data.{Data}
 use Rattle.serde_json.specs.Written.{compact_text, has_float}
 use Rattle.lsp_rpc.specs.Message as spoken
-use Rattle.lsp_rpc.specs.Message.{Message}
+use Rattle.lsp_replay.specs.Common.{BreaksRule, broken, content, Event, is_object, IsRefusal}
+use Rattle.lsp_replay.specs.Common.{Message, message, message_in, parts_of, show, Side, snapshot}
+use Rattle.lsp_replay.specs.Common.{spelling}
 use Rattle.lsp_rpc.specs.Params.{IsRefused}
-use Rattle.lsp_rpc.specs.Reading.{BreaksRule, IsRefusal, Reads, broken_rule, least_broken, message_in}
-use Rattle.lsp_rpc.specs.Reading.{parts_of, rules_on}
-use Rattle.lsp_rpc.specs.Shape.{is_object}
-use Rattle.lsp_log.specs.Log.{spelling}
+use Rattle.lsp_rpc.specs.Reading.{Reads, broken_rule, least_broken}
+use Rattle.lsp_rpc.specs.Reading.{rules_on}
 use Rattle.lsp_types.specs.declared.fault.Fault.{Fault}
 use Rattle.lsp_types.specs.declared.fault.Fault.TheVariants.{Rule}
 use Rattle.lsp_types.specs.declared.rules.TheConstants as rules
-use Rattle.lsp_types.specs.declared.side.Side.{Side}
-use Rattle.lsp_verdict.specs.Event.{Event, fault, message, snapshot}
+use Rattle.lsp_verdict.specs.Event.{fault}
 use Rattle.lsp_verdict.specs.Given.{raw_view}
 use Rattle.lsp_verdict.specs.Placed as placed
-use Rattle.lsp_verdict.specs.Placed.{ReadsAs, broken, content, show}
+use Rattle.lsp_verdict.specs.Placed.{ReadsAs}
 use Rattle.lsp_verdict.specs.declared.raw.Raw as code
 use Rattle.lsp_verdict.specs.declared.raw.Raw.TheVariants as raws
 use Rattle.lsp_verdict.proofs.Below.{not_both}

@@ -1,7 +1,6 @@
 -- Copies of what a message means.
 use Rattle.std.proofs.Common.{◌≡◌, refl}
-use Rattle.lsp_rpc.specs.View.{act_view}
-use Rattle.lsp_rpc.specs.Act.{other}
+use Rattle.lsp_replay.specs.Common.{act_view, other}
 use Rattle.lsp_rpc.specs.declared.act.Act as code
 use Rattle.lsp_rpc.specs.declared.act.Act.TheVariants as acts
 use Rattle.lsp_redact.specs.Copies.{call_of}

@@ -17,8 +17,7 @@ use Rattle.std.proofs.lemmas.Str.{chars_past_char, encodes-chars, scalars-chars}
 use lib.Utf8.{encode, scalar, scalars}
 use Rattle.lsp_extract.specs.Normal.{cut}
 use Rattle.lsp_extract.proofs.Forming.Pieces.{cut_none, cut_some}
-use Rattle.lsp_log.specs.Log.{chunk, spelling}
-use Rattle.lsp_types.specs.declared.side.Side.{Side}
+use Rattle.lsp_replay.specs.Common.{chunk, Side, spelling}
 use Rattle.lsp_redact.specs.Records.{pieces}
 
 -- a text is in two parts, and these are the characters of the first

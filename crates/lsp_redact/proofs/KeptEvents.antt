@@ -2,19 +2,14 @@
 use Rattle.std.proofs.Common.{◌≡◌, ◌⊎◌, ℕ, Bool, true, false, List, Option, Some, None, refl, sym, ap}
 use Rattle.std.proofs.Common.{◌∙◌, inl, inr, subst, true≢false}
 use Rattle.std.specs.Prelude.{not, option_map}
-use Rattle.lsp_rpc.specs.Act.{Act}
+use Rattle.lsp_replay.specs.Common.{Act, act_view, Event, is_empty, MaySpeak, Message, message}
+use Rattle.lsp_replay.specs.Common.{message_view, outline, Sent, Side, snapshot, Spoken}
+use Rattle.lsp_replay.specs.Common.{without_params}
 use Rattle.lsp_rpc.specs.Message as spoken
-use Rattle.lsp_rpc.specs.Message.{Message}
-use Rattle.lsp_rpc.specs.Outline.{outline, without_params}
-use Rattle.lsp_rpc.specs.View.{act_view, message_view}
-use Rattle.lsp_rpc.specs.declared.act.Spoken.{Spoken}
-use Rattle.lsp_session.specs.Handshake.{is_empty}
 use Rattle.lsp_session.specs.OpenInitialize.{Initialize}
-use Rattle.lsp_session.specs.Sent.{Sent}
-use Rattle.lsp_types.specs.declared.side.Side.{Side}
 use Rattle.lsp_replay.specs.Standing.{HasValue}
-use Rattle.lsp_replay.specs.Telling.{IsSpoken, MaySpeak}
-use Rattle.lsp_verdict.specs.Event.{Event, fault, message, snapshot}
+use Rattle.lsp_replay.specs.Telling.{IsSpoken}
+use Rattle.lsp_verdict.specs.Event.{fault}
 use Rattle.lsp_verdict.specs.Placed.{IsSent, ReadsAs}
 use Rattle.lsp_redact.specs.Kept as kept
 use Rattle.lsp_redact.specs.Kept.{Head, Kept, awaits, head_of, kept_of}

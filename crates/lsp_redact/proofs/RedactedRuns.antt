@@ -2,24 +2,22 @@
 use Rattle.std.proofs.Common.{◌≡◌, ◌⊎◌, ℕ, Bool, true, false, List, [], ◌++◌, Option, Some, None, inl, inr}
 use Rattle.std.proofs.Common.{◌∷◌, refl, sym, ap, subst, ◌∙◌, append_assoc, append-nil}
 use Rattle.std.specs.Prelude.{is_some, if◌then◌else◌, option_map}
-use Rattle.lsp_docs.specs.Documents.{Terms}
-use Rattle.lsp_frame.specs.Bounds.{Bounds, IsInRange}
+use Rattle.lsp_replay.specs.Common.{bad_log, Bounds, EndsAfter, first_no, Heard, heard_events}
+use Rattle.lsp_replay.specs.Common.{IsInRange, IsPassed, IsTold, IsVerdict, log_terms, no, no_by}
+use Rattle.lsp_replay.specs.Common.{Rests, rule_of, StopsIn, Terms, Unlike, yes}
 use Rattle.lsp_judge.specs.JudgingRun.{verdict_of}
 use Rattle.lsp_judge.proofs.Told.{ends_verdict, told_end, told_no}
-use Rattle.lsp_replay.specs.Run.{EndsAfter, IsPassed, IsTold, SaysAll, StopsIn}
+use Rattle.lsp_replay.specs.Run.{SaysAll}
 use Rattle.lsp_replay.specs.RunLaws.{IsSameEnd}
-use Rattle.lsp_replay.specs.Telling.{rule_of}
 use Rattle.lsp_replay.proofs.AllHeard.{first_after, none_is}
 use Rattle.lsp_replay.proofs.Outputs.{end_same, has_one, judged_same}
 use Rattle.lsp_replay.proofs.PassEnds.{IsQuiet}
 use Rattle.lsp_replay.proofs.RunLaws.{writes_at_its_end}
 use Rattle.lsp_replay.proofs.TextRuns.{no_none}
-use Rattle.lsp_verdict.specs.Heard.{Heard, Rests, heard_events}
-use Rattle.lsp_verdict.specs.Outcome.{IsVerdict, log_terms}
-use Rattle.lsp_verdict.specs.Verdict.{Verdict, bad_log, first_no, no, no_by, yes}
+use Rattle.lsp_verdict.specs.Verdict.{Verdict}
 use Rattle.lsp_verdict.specs.declared.completeness.Completeness.TheVariants.{Ignored}
 use Rattle.lsp_verdict.specs.declared.outcome.Outcome.{Outcome}
-use Rattle.lsp_verdict.specs.declared.outcome.Outcome.TheVariants.{Done, Judged, Unlike}
+use Rattle.lsp_verdict.specs.declared.outcome.Outcome.TheVariants.{Done, Judged}
 use Rattle.lsp_verdict.specs.declared.verdict.Verdict.TheVariants as given
 use Rattle.lsp_verdict.proofs.Logs.{one_verdict, some_verdict}
 use Rattle.lsp_redact.specs.Check.{Checks, EndsBy, EndsIf, is_fault, shows}

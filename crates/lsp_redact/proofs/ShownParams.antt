@@ -1,8 +1,7 @@
 -- What is written of what a message means, where little or nothing is.
 use Rattle.std.proofs.Common.{◌≡◌, Option, None, sym, subst, refl}
 use Rattle.serde_json.specs.Data.{Data}
-use Rattle.lsp_rpc.specs.Act.{Act, other}
-use Rattle.lsp_rpc.specs.View.{act_view}
+use Rattle.lsp_replay.specs.Common.{Act, act_view, other}
 use Rattle.lsp_rpc.specs.declared.act.Act as code
 use Rattle.lsp_rpc.specs.declared.act.Act.TheVariants as acts
 use Rattle.lsp_redact.specs.Copies.{call_of}

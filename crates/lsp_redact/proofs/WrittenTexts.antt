@@ -4,8 +4,7 @@ use Rattle.std.specs.Prelude.{◌||◌, codes, option_map}
 use Rattle.serde_json.specs.Data.{Data, Members, no_members, object}
 use Rattle.serde_json.specs.View.{items_of}
 use Rattle.serde_json.specs.Written.{has_float, items_have_float, members_have_float}
-use Rattle.lsp_rpc.specs.Act.{Text}
-use Rattle.lsp_types.specs.declared.position.Span.{Span}
+use Rattle.lsp_replay.specs.Common.{Span, Text}
 use Rattle.lsp_redact.specs.Kept as kept
 use Rattle.lsp_redact.specs.Messages.{answered_data, call_members, change_data, encoding_data, id_data}
 use Rattle.lsp_redact.specs.Messages.{integer, member_if, members_of, offered_data, params_of}

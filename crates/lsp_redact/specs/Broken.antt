@@ -5,9 +5,8 @@ use Rattle.std.specs.Prelude.{option_and_then}
 use Rattle.serde_json.specs.Data.{Data, null, object}
 use Rattle.serde_json.specs.Read.{read}
 use Rattle.serde_json.specs.Written.{compact_text}
-use Rattle.lsp_rpc.specs.Act.{Text}
-use Rattle.lsp_rpc.specs.Message.{Message, request, notification, response}
-use Rattle.lsp_rpc.specs.Reading.{message_in, parts_of}
+use Rattle.lsp_replay.specs.Common.{Message, message_in, notification, parts_of, request, response}
+use Rattle.lsp_replay.specs.Common.{Text}
 use Rattle.lsp_types.specs.declared.rules.TheConstants as rules
 use Rattle.lsp_redact.specs.Messages.{call_members, natural}
 use Rattle.lsp_redact.specs.Names.{known_methods, place_in, written_method}

@@ -1,8 +1,7 @@
 -- What a character is shown by: another of its kind, which has as many units in each encoding.
 use Rattle.std.specs.Prelude.{ℕ, List, [], ◌∷◌, map, Bool, true, false, ◌==◌, ◌&&◌, nat_le, nat_lt}
 use Rattle.std.specs.Prelude.{if◌then◌else◌, Option, Some, None, chars, encode_utf8_all}
-use Rattle.lsp_types.specs.declared.line_ends.LineEnds.{LineEnds}
-use Rattle.lsp_text.specs.SameText.{compared}
+use Rattle.lsp_replay.specs.Common.{compared, LineEnds}
 use Rattle.lsp_facts.specs.TwoTexts.{TwoTexts}
 use Rattle.lsp_redact.specs.Shape as shape
 use Rattle.lsp_redact.specs.Shape.{Character, mark, of_kind}

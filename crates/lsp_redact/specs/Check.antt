@@ -3,20 +3,14 @@ use Rattle.std.specs.Prelude.{◌≡◌, ◌&&◌, ◌==◌, ℕ, List, [], ◌�
 use Rattle.std.specs.Prelude.{Some, None, if◌then◌else◌}
 use Rattle.std.specs.Ordering.{int_eq}
 use Rattle.lsp_extract.specs.Normal.{is_frame_rule}
-use Rattle.lsp_frame.specs.Bounds.{Bounds}
-use Rattle.lsp_replay.specs.Run.{IsJudged}
+use Rattle.lsp_replay.specs.Common.{bad_log, Bounds, Encoding, IsJudged, IsVerdict, no, same_side}
+use Rattle.lsp_replay.specs.Common.{Side, Summary, SyncKind, Unlike, Who, yes}
 use Rattle.lsp_session.specs.Entry.{Entry}
-use Rattle.lsp_session.specs.Sent.{same_side}
-use Rattle.lsp_types.specs.declared.change.SyncKind.{SyncKind}
 use Rattle.lsp_types.specs.declared.change.SyncKind.TheVariants as kinds
-use Rattle.lsp_types.specs.declared.position.Encoding.{Encoding}
 use Rattle.lsp_types.specs.declared.position.Encoding.TheVariants as encodings
-use Rattle.lsp_types.specs.declared.side.Side.{Side}
-use Rattle.lsp_verdict.specs.Outcome.{IsVerdict}
-use Rattle.lsp_verdict.specs.Verdict.{Document, Summary, Verdict, bad_log, no, yes}
+use Rattle.lsp_verdict.specs.Verdict.{Document, Verdict}
 use Rattle.lsp_verdict.specs.declared.outcome.Outcome.{Outcome}
-use Rattle.lsp_verdict.specs.declared.outcome.Outcome.TheVariants.{Done, Unlike}
-use Rattle.lsp_verdict.specs.declared.verdict.Who.{Who}
+use Rattle.lsp_verdict.specs.declared.outcome.Outcome.TheVariants.{Done}
 use Rattle.lsp_verdict.specs.declared.verdict.Who.TheVariants as who
 
 -- ---- the same verdict, but for names

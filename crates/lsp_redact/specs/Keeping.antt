@@ -1,8 +1,6 @@
 -- For which events the account of the run stands.
 use Rattle.std.specs.Prelude.{◌≡◌, List, map, None}
-use Rattle.lsp_docs.specs.Documents.{Terms}
-use Rattle.lsp_verdict.specs.Heard.{Heard, heard_events}
-use Rattle.lsp_verdict.specs.Verdict.{first_no}
+use Rattle.lsp_replay.specs.Common.{first_no, Heard, heard_events, Terms}
 use Rattle.lsp_redact.specs.Kept.{awaits, kept_in}
 use Rattle.lsp_redact.specs.View.{kept_view}
 use Rattle.lsp_redact.specs.declared.redacting.Redacting.{Redacting}

@@ -1,15 +1,10 @@
 -- **What is kept of an event: what the rules read.**
 use Rattle.std.specs.Prelude.{ℕ, ℤ, List, Bool, true, false, not, Option, Some, None}
-use Rattle.lsp_rpc.specs.Act.{Act, Picked}
-use Rattle.lsp_rpc.specs.Ident.{Ident}
+use Rattle.lsp_rpc.specs.Act.{Picked}
+use Rattle.lsp_replay.specs.Common.{Act, each_of, Event, Ident, is_empty, Message, open_initializes}
+use Rattle.lsp_replay.specs.Common.{picked_at, sent_in, Side}
 use Rattle.lsp_rpc.specs.Message as spoken
-use Rattle.lsp_rpc.specs.Message.{Message}
-use Rattle.lsp_rpc.specs.Results.{picked_at}
-use Rattle.lsp_session.specs.Handshake.{is_empty, open_initializes}
-use Rattle.lsp_types.specs.declared.side.Side.{Side}
 use Rattle.lsp_verdict.specs.Event as events
-use Rattle.lsp_verdict.specs.Event.{Event, sent_in}
-use Rattle.lsp_verdict.specs.LookBack.{each_of}
 
 -- of an answer: what a result picks that comes while an `initialize` is open, or the code of an
 -- error; nothing of any other result

@@ -1,11 +1,9 @@
 -- Laws of logs with their words replaced.
 use Rattle.std.specs.Prelude.{◌≡◌, ◌⊎◌, ℕ, List, [], true}
-use Rattle.lsp_frame.specs.Bounds.{Bounds, IsInRange}
-use Rattle.lsp_replay.specs.RunLaws.{HasOneOutput, WritesAtItsEnd}
-use Rattle.lsp_verdict.specs.Outcome.{IsVerdict}
+use Rattle.lsp_replay.specs.Common.{Bounds, HasOneOutput, IsInRange, IsVerdict, Unlike}
+use Rattle.lsp_replay.specs.RunLaws.{WritesAtItsEnd}
 use Rattle.lsp_verdict.specs.Verdict.{Verdict}
 use Rattle.lsp_verdict.specs.declared.outcome.Outcome.{Outcome}
-use Rattle.lsp_verdict.specs.declared.outcome.Outcome.TheVariants.{Unlike}
 use Rattle.lsp_redact.specs.Check.{shows}
 use Rattle.lsp_redact.specs.Records.{most_of, written}
 use Rattle.lsp_redact.specs.Redacted.{IsRedacted}

@@ -6,11 +6,8 @@ use Rattle.serde_json.specs.Data.{Members, no_members, member, put}
 use Rattle.serde_json.specs.Find.{of_integer}
 use Rattle.serde_json.specs.View.{items_of}
 use Rattle.serde_json.specs.Written.{compact_text}
-use Rattle.lsp_rpc.specs.Act.{Text}
-use Rattle.lsp_types.specs.declared.change.SyncKind.{SyncKind}
-use Rattle.lsp_types.specs.declared.change.SyncKind.TheVariants.{Nothing, Full, Incremental}
-use Rattle.lsp_types.specs.declared.position.Position.{Position}
-use Rattle.lsp_types.specs.declared.position.Span.{Span}
+use Rattle.lsp_replay.specs.Common.{Nothing, Position, Span, SyncKind, Text}
+use Rattle.lsp_types.specs.declared.change.SyncKind.TheVariants.{Full, Incremental}
 use Rattle.lsp_redact.specs.Characters.{written_text}
 use Rattle.lsp_redact.specs.Names.{written_encoding, written_method, written_uri}
 use Rattle.lsp_redact.specs.Shape as shape

@@ -5,9 +5,8 @@ use Rattle.std.specs.Fmt.{signed_decimal}
 use Rattle.std.specs.List.{list_any, prefix_len}
 use Rattle.std.specs.Str.{bytes_eq}
 use Rattle.lsp_rpc.specs.Act as act
-use Rattle.lsp_rpc.specs.Act.{Act, Text, Offer}
+use Rattle.lsp_replay.specs.Common.{Act, Ident, Offer, Text}
 use Rattle.lsp_rpc.specs.Ident as ident
-use Rattle.lsp_rpc.specs.Ident.{Ident}
 use Rattle.lsp_rpc.specs.Params.{Row, editor_requests, editor_notifications, server_requests}
 use Rattle.lsp_rpc.specs.Params.{server_notifications}
 use Rattle.lsp_redact.specs.Kept.{Head, request, notification, response, Kept, message, snapshot}

@@ -2,10 +2,8 @@
 use Rattle.std.specs.Prelude.{ℕ, ◌/◌, List, [], ◌∷◌, ◌++◌, map, max, chars, encode_utf8_all}
 use Rattle.std.specs.List.{flat_map}
 use Rattle.lsp_extract.specs.Normal.{cut}
-use Rattle.lsp_frame.specs.Bounds.{Bounds}
-use Rattle.lsp_frame.specs.Sink.{canonical}
-use Rattle.lsp_log.specs.Log.{Record, chunk, first_line, shown, spelling}
-use Rattle.lsp_types.specs.declared.side.Side.{Side}
+use Rattle.lsp_replay.specs.Common.{Bounds, canonical, chunk, first_line, shown, Side, spelling}
+use Rattle.lsp_log.specs.Log.{Record}
 use Rattle.lsp_redact.specs.Broken.{refused_text}
 use Rattle.lsp_redact.specs.Characters.{written_text}
 use Rattle.lsp_redact.specs.Messages.{content_of}

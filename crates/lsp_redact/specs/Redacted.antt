@@ -1,7 +1,6 @@
 -- A log with its words replaced.
 use Rattle.std.specs.Prelude.{List, ℕ}
-use Rattle.lsp_frame.specs.Bounds.{Bounds}
-use Rattle.lsp_replay.specs.Run.{IsPassed}
+use Rattle.lsp_replay.specs.Common.{Bounds, IsPassed}
 use Rattle.lsp_verdict.specs.declared.outcome.Outcome.{Outcome}
 use Rattle.lsp_redact.specs.Redacting.{redact_run}
 

@@ -2,20 +2,13 @@
 use Rattle.std.specs.Prelude.{◌≡◌, ◌==◌, ℕ, List, [], ◌∷◌, ◌++◌, true, Option, Some, None, is_some}
 use Rattle.std.specs.Prelude.{option_and_then, option_to_list, if◌then◌else◌, map}
 use Rattle.std.specs.List.{flat_map}
-use Rattle.lsp_docs.specs.Documents.{Terms}
+use Rattle.lsp_replay.specs.Common.{Bounds, content, Event, Format, Heard, heard_events, no_by}
+use Rattle.lsp_replay.specs.Common.{rule_of, Run, Side, spelling, Tail, Terms}
 use Rattle.lsp_facts.specs.TwoTexts.{texts_at}
-use Rattle.lsp_frame.specs.Bounds.{Bounds}
-use Rattle.lsp_frame.specs.declared.format.Format.{Format}
 use Rattle.lsp_frame.specs.declared.format.Format.TheVariants.{One, Two}
 use Rattle.lsp_judge.specs.JudgingRun.{verdict_of}
-use Rattle.lsp_log.specs.Log.{spelling}
-use Rattle.lsp_replay.specs.Run.{Run, Tail}
-use Rattle.lsp_replay.specs.Telling.{rule_of}
-use Rattle.lsp_types.specs.declared.side.Side.{Side}
-use Rattle.lsp_verdict.specs.Event.{Event, fault}
-use Rattle.lsp_verdict.specs.Heard.{Heard, heard_events}
-use Rattle.lsp_verdict.specs.Placed.{Raw, content}
-use Rattle.lsp_verdict.specs.Verdict.{no_by}
+use Rattle.lsp_verdict.specs.Event.{fault}
+use Rattle.lsp_verdict.specs.Placed.{Raw}
 use Rattle.lsp_verdict.specs.declared.completeness.Completeness.TheVariants.{Ignored}
 use Rattle.lsp_verdict.specs.declared.outcome.Outcome.{Outcome}
 use Rattle.lsp_verdict.specs.declared.outcome.Outcome.TheVariants.{Done}

@@ -1,10 +1,7 @@
 -- **What is left of a log: a shape, which has no place for a word of it.** A text is characters of
 -- which only the kind is known, a name is a number. What is written is a function of the shape.
 use Rattle.std.specs.Prelude.{ℕ, ℤ, List, Bool, Option}
-use Rattle.lsp_frame.specs.declared.format.Format.{Format}
-use Rattle.lsp_types.specs.declared.change.SyncKind.{SyncKind}
-use Rattle.lsp_types.specs.declared.position.Span.{Span}
-use Rattle.lsp_types.specs.declared.side.Side.{Side}
+use Rattle.lsp_replay.specs.Common.{Format, Side, Span, SyncKind}
 use Rattle.lsp_redact.specs.declared.characters.Kind.{Kind}
 
 -- ---- texts and names

@@ -1,9 +1,7 @@
 -- What the code keeps of an event, as the definitions see it.
 use Rattle.std.specs.Prelude.{Bool, option_map, string_bytes, chars}
-use Rattle.lsp_rpc.specs.Ident.{id_view}
-use Rattle.lsp_rpc.specs.View.{act_view, message_view, picked_view}
-use Rattle.lsp_rpc.specs.declared.act.Spoken.{Spoken}
-use Rattle.lsp_types.specs.declared.side.Side.{Side}
+use Rattle.lsp_replay.specs.Common.{act_view, id_view, message_view, Side, Spoken}
+use Rattle.lsp_rpc.specs.View.{picked_view}
 use Rattle.lsp_redact.specs.Kept.{Head, request, notification, response}
 use Rattle.lsp_redact.specs.Kept.{Kept, head_of, message, snapshot, Reply, picks, nothing, failed}
 use Rattle.lsp_redact.specs.declared.kept.Head as head

@@ -1,15 +1,12 @@
 //! The character by which two texts that differ stay apart.
 ghost use Rattle.std.specs.Prelude.{◌≡◌, IfOk, List, Some, chars, option_and_then, option_map};
 ghost use Rattle.std.specs.Prelude.{string_bytes};
-ghost use Rattle.lsp_docs.specs.State.{Stands};
-ghost use Rattle.lsp_docs.specs.Taken.{call_view};
+ghost use Rattle.lsp_replay.specs.Common.{call_at, call_view, calls, Event, made_in, offence};
+ghost use Rattle.lsp_replay.specs.Common.{Stands, TriesCall};
 ghost use Rattle.lsp_redact.specs.Characters as spec;
 ghost use Rattle.lsp_redact.specs.Redacting.{apart_at};
 ghost use Rattle.lsp_facts.specs.TwoTexts.{seen_texts};
-ghost use Rattle.lsp_replay.specs.Tries.{TriesCall, made_in};
 ghost use Rattle.lsp_text.specs.SameText as same;
-ghost use Rattle.lsp_verdict.specs.Event.{Event, call_at, calls};
-ghost use Rattle.lsp_verdict.specs.Verdict.{offence};
 
 use lsp_docs::{Call, Tried};
 use lsp_facts::{TwoTexts, texts_at};

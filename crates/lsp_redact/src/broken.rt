@@ -3,8 +3,7 @@ ghost use Rattle.std.specs.Prelude.{◌≡◌, IfOk, string_bytes};
 ghost use Rattle.lsp_redact.specs.Broken as spec;
 ghost use Rattle.lsp_redact.specs.Broken.{bare_method, bare_of, left_of, refused_text};
 ghost use Rattle.lsp_redact.specs.Names.{written_method};
-ghost use Rattle.lsp_rpc.specs.View.{message_view};
-ghost use Rattle.lsp_types.specs.declared.side.Side.{Side};
+ghost use Rattle.lsp_replay.specs.Common.{message_view, Side};
 ghost use Rattle.lsp_rpc.specs.Params.{IsRefused};
 ghost use Rattle.serde_json.specs.View.{view};
 

@@ -1,7 +1,6 @@
 //! Copies of what a message means.
 ghost use Rattle.std.specs.Prelude.{◌≡◌, IfOk, option_map, string_bytes};
-ghost use Rattle.lsp_rpc.specs.Ident.{id_view};
-ghost use Rattle.lsp_rpc.specs.View.{act_view, changes_view, offer_view, texts_view};
+ghost use Rattle.lsp_replay.specs.Common.{act_view, changes_view, id_view, offer_view, texts_view};
 ghost use Rattle.lsp_redact.specs.Copies.{call_of};
 
 use lsp_rpc::{Act, Change, Id, Offer, Result, copy_id};

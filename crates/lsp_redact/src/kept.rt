@@ -3,11 +3,9 @@ ghost use Rattle.std.specs.Prelude.{◌≡◌, IfOk, List, chars, option_map};
 ghost use Rattle.lsp_redact.specs.Kept as spec;
 ghost use Rattle.lsp_redact.specs.Kept.{awaits};
 ghost use Rattle.lsp_redact.specs.View.{head_view, kept_view, reply_view, spoken_kept};
-ghost use Rattle.lsp_replay.specs.Telling.{MaySpeak};
-ghost use Rattle.lsp_rpc.specs.View.{act_view, answer_view, message_view};
-ghost use Rattle.lsp_verdict.specs.Event.{Event};
+ghost use Rattle.lsp_replay.specs.Common.{act_view, Event, MaySpeak, message_view, Reads};
+ghost use Rattle.lsp_rpc.specs.View.{answer_view};
 ghost use Rattle.lsp_verdict.specs.Given.{raw_view};
-ghost use Rattle.lsp_verdict.specs.Placed.{Reads};
 ghost use Rattle.lsp_rpc.specs.Message as message;
 ghost use Rattle.serde_json.specs.View.{view};
 

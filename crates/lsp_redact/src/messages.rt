@@ -10,8 +10,7 @@ ghost use Rattle.lsp_redact.specs.Names.{message_names, reply_names, shown_id, s
 ghost use Rattle.lsp_redact.specs.Naming.{Writes};
 ghost use Rattle.lsp_redact.specs.Shown.{shown_act, shown_head, shown_reply};
 ghost use Rattle.lsp_redact.specs.View.{head_view, reply_view};
-ghost use Rattle.lsp_rpc.specs.Ident.{id_view};
-ghost use Rattle.lsp_rpc.specs.View.{act_view};
+ghost use Rattle.lsp_replay.specs.Common.{act_view, id_view};
 ghost use Rattle.serde_json.specs.Data.{object};
 ghost use Rattle.serde_json.specs.View.{view};
 

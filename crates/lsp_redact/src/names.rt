@@ -10,9 +10,8 @@ ghost use Rattle.lsp_redact.specs.Names.{shown_encoding, shown_id, shown_method,
 ghost use Rattle.lsp_redact.specs.Names.{written_encoding, written_method, written_uri};
 ghost use Rattle.lsp_redact.specs.Naming.{Shows, Stands};
 ghost use Rattle.lsp_redact.specs.Messages.{id_data};
-ghost use Rattle.lsp_rpc.specs.Act.{Text};
+ghost use Rattle.lsp_replay.specs.Common.{id_view, Text};
 ghost use Rattle.lsp_rpc.specs.Ident as ident;
-ghost use Rattle.lsp_rpc.specs.Ident.{id_view};
 ghost use Rattle.serde_json.specs.View.{view};
 
 use crate::values::text_value;

@@ -2,9 +2,8 @@
 ghost use Rattle.std.specs.Prelude.{◌≡◌, ◌++◌, ◌∷◌, [], IfOk, List, None, OnOk, Some, false, map};
 ghost use Rattle.std.specs.Prelude.{max, option_map, option_to_list, string_bytes};
 ghost use Rattle.std.specs.List.{flat_map};
-ghost use Rattle.lsp_docs.specs.Documents.{Terms};
-ghost use Rattle.lsp_frame.specs.Bounds.{Bounds};
-ghost use Rattle.lsp_log.specs.Log.{spelling};
+ghost use Rattle.lsp_replay.specs.Common.{Bounds, Event, Heard, heard_events, IsSeen, MaySpeak};
+ghost use Rattle.lsp_replay.specs.Common.{Reads, rule_of, spelling, Terms};
 ghost use Rattle.lsp_redact.specs.Keeping.{Keeps};
 ghost use Rattle.lsp_redact.specs.Kept.{awaits};
 ghost use Rattle.lsp_redact.specs.Kept as spec;
@@ -16,11 +15,7 @@ ghost use Rattle.lsp_redact.specs.Redacting.{AddsLast, IsBroken, IsFaultOf, apar
 ghost use Rattle.lsp_redact.specs.Redacting.{left_to, log_by, redact_run};
 ghost use Rattle.lsp_redact.specs.Shown.{shown_kept};
 ghost use Rattle.lsp_redact.specs.View.{kept_view};
-ghost use Rattle.lsp_replay.specs.Telling.{IsSeen, MaySpeak, rule_of};
-ghost use Rattle.lsp_verdict.specs.Event.{Event};
 ghost use Rattle.lsp_verdict.specs.Given.{raw_view};
-ghost use Rattle.lsp_verdict.specs.Heard.{Heard, heard_events};
-ghost use Rattle.lsp_verdict.specs.Placed.{Reads};
 
 use crate::apart::apart_of;
 use crate::broken::broken_text;

@@ -1,7 +1,6 @@
 //! Writes a log with its words replaced.
 ghost use Rattle.lsp_redact.specs.Redacting.{redact_run};
-ghost use Rattle.lsp_replay.specs.Run.{PassesOn};
-ghost use Rattle.lsp_verdict.specs.Runs.{ports};
+ghost use Rattle.lsp_replay.specs.Common.{PassesOn, ports};
 
 use crate::redacting::Redacting;
 use lsp_frame::{Limits, Sink, Source};

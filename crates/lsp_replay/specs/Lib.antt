@@ -12,3 +12,4 @@ pub mod TextAnswers
 pub mod Run
 pub mod RunLaws
 pub mod JsonRun
+pub mod Common

@@ -9,11 +9,9 @@ use Rattle.lsp_extract.specs.declared.event.EventOutcome.TheVariants as events
 use Rattle.lsp_request.specs.declared.task_outcome.TaskOutcome.{TaskOutcome}
 use Rattle.lsp_request.specs.declared.task_outcome.TaskOutcome.TheVariants as tasks
 use Rattle.lsp_verdict.specs.declared.outcome.Outcome.{Outcome}
-use Rattle.lsp_verdict.specs.declared.outcome.Outcome.TheVariants.{Judged, Stream, NoDocument}
-use Rattle.lsp_verdict.specs.declared.outcome.RunFault.{RunFault}
-use Rattle.lsp_verdict.specs.declared.outcome.StreamFault.{StreamFault}
-use Rattle.lsp_verdict.specs.declared.outcome.StreamFault.TheVariants.{Rule, TooLong}
-use Rattle.lsp_verdict.specs.declared.verdict.Verdict.TheVariants.{BadLog}
+use Rattle.lsp_verdict.specs.declared.outcome.Outcome.TheVariants.{Judged}
+use Rattle.lsp_replay.specs.Common.{BadLog, NoDocument, Rule, RunFault, Stream, StreamFault}
+use Rattle.lsp_replay.specs.Common.{TooLong}
 use Rattle.lsp_types.specs.declared.rules.TheConstants as rules
 use Rattle.lsp_request.specs.declared.hint.Hint.{Hint}
 use Rattle.lsp_request.specs.declared.hint.Hint.TheVariants as hints

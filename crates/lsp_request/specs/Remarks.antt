@@ -1,19 +1,15 @@
 -- What is said on standard error of how a run ended.
 use Rattle.std.specs.Prelude.{ℕ, List, Option, Some, None, Result, Ok, Err, codes}
-use Rattle.lsp_verdict.specs.Given.{verdict_view}
-use Rattle.lsp_verdict.specs.Report.{report, stream_report}
-use Rattle.lsp_verdict.specs.declared.outcome.Mode.TheVariants.{Canonical}
-use Rattle.lsp_verdict.specs.Verdict.{bad_log}
+use Rattle.lsp_replay.specs.Common.{bad_log, Canonical, Memory, NoDocument, Read, report, RunFault}
+use Rattle.lsp_replay.specs.Common.{Stream, Unlike, verdict_view, Write, Yes}
+use Rattle.lsp_verdict.specs.Report.{stream_report}
 use Rattle.lsp_extract.specs.declared.event.EventOutcome.TheVariants as events
 use Rattle.lsp_request.specs.declared.task_outcome.TaskOutcome.{TaskOutcome}
 use Rattle.lsp_request.specs.declared.task_outcome.TaskOutcome.TheVariants as tasks
 use Rattle.lsp_verdict.specs.declared.outcome.Outcome.{Outcome}
-use Rattle.lsp_verdict.specs.declared.outcome.Outcome.TheVariants.{Judged, Stream, NoDocument}
-use Rattle.lsp_verdict.specs.declared.outcome.Outcome.TheVariants.{NoDifference, TooFew, Unlike}
-use Rattle.lsp_verdict.specs.declared.outcome.RunFault.{RunFault}
-use Rattle.lsp_verdict.specs.declared.outcome.RunFault.TheVariants.{Read, Write, Memory}
+use Rattle.lsp_verdict.specs.declared.outcome.Outcome.TheVariants.{Judged}
+use Rattle.lsp_verdict.specs.declared.outcome.Outcome.TheVariants.{NoDifference, TooFew}
 use Rattle.lsp_verdict.specs.declared.verdict.Verdict.{Verdict}
-use Rattle.lsp_verdict.specs.declared.verdict.Verdict.TheVariants.{Yes}
 use Rattle.lsp_request.specs.declared.command_line.task.Task.{Task}
 use Rattle.lsp_request.specs.declared.command_line.task.Rewrite.TheVariants.{Upgrade}
 use Rattle.lsp_request.specs.declared.command_line.task.Task.TheVariants.{Compared, Frames, Rewrite}

@@ -8,13 +8,11 @@ use Rattle.lsp_judge.specs.Checked.{compared_nothing}
 use Rattle.lsp_request.specs.declared.command_line.task.Request.{Request}
 use Rattle.lsp_request.specs.declared.task_outcome.TaskOutcome.{TaskOutcome}
 use Rattle.lsp_request.specs.declared.task_outcome.TaskOutcome.TheVariants as tasks
-use Rattle.lsp_verdict.specs.Given.{verdict_view}
+use Rattle.lsp_replay.specs.Common.{BadLog, Memory, No, NoDocument, Read, RunFault, Stream, Unlike}
+use Rattle.lsp_replay.specs.Common.{verdict_view, Write, Yes}
 use Rattle.lsp_verdict.specs.declared.outcome.Outcome.{Outcome}
-use Rattle.lsp_verdict.specs.declared.outcome.Outcome.TheVariants.{Done, Judged, Stream, NoDocument}
-use Rattle.lsp_verdict.specs.declared.outcome.Outcome.TheVariants.{NoDifference, TooFew, Unlike}
-use Rattle.lsp_verdict.specs.declared.outcome.RunFault.{RunFault}
-use Rattle.lsp_verdict.specs.declared.outcome.RunFault.TheVariants.{Read, Write, Memory}
-use Rattle.lsp_verdict.specs.declared.verdict.Verdict.TheVariants.{Yes, No, BadLog}
+use Rattle.lsp_verdict.specs.declared.outcome.Outcome.TheVariants.{Done, Judged}
+use Rattle.lsp_verdict.specs.declared.outcome.Outcome.TheVariants.{NoDifference, TooFew}
 
 -- 0 yes or done, 1 no, 2 a bad log or a bad stream, 5 no such document, too few messages, or no
 -- texts that differ, 6 a log that can't be redacted

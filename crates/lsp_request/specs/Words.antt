@@ -11,17 +11,12 @@ use Rattle.clap.specs.Matches.{found_of}
 use Rattle.clap.specs.declared.error.Error.{Error}
 use Rattle.clap.specs.declared.error.kind.ErrorKind.TheVariants.{MissingSubcommand}
 use Rattle.clap.specs.declared.parser.matches.ArgMatches.{ArgMatches}
-use Rattle.lsp_types.specs.declared.line_ends.LineEnds.{LineEnds}
+use Rattle.lsp_replay.specs.Common.{Bounds, Canonical, Causes, Completeness, Every, Kinds, Lengths}
+use Rattle.lsp_replay.specs.Common.{LineEnds, Lines, Listing, Mode}
 use Rattle.lsp_types.specs.declared.line_ends.LineEnds.TheVariants as ends
-use Rattle.lsp_frame.specs.Bounds.{Bounds, ignoring_line_ends, profile}
-use Rattle.lsp_verdict.specs.declared.completeness.Completeness.{Completeness}
+use Rattle.lsp_frame.specs.Bounds.{ignoring_line_ends, profile}
 use Rattle.lsp_verdict.specs.declared.completeness.Completeness.TheVariants.{Ignored, Required}
-use Rattle.lsp_verdict.specs.declared.lines.Lines.{Lines}
 use Rattle.lsp_verdict.specs.declared.lines.Lines.TheVariants.{Short, Long}
-use Rattle.lsp_verdict.specs.declared.outcome.Mode.{Mode}
-use Rattle.lsp_verdict.specs.declared.outcome.Mode.TheVariants.{Lengths, Canonical, Kinds}
-use Rattle.lsp_verdict.specs.declared.listing.Listing.{Listing}
-use Rattle.lsp_verdict.specs.declared.listing.Listing.TheVariants.{Causes, Every}
 use Rattle.lsp_facts.specs.declared.two_texts.ComparedText.{ComparedText}
 use Rattle.lsp_facts.specs.declared.two_texts.ComparedText.TheVariants.{ByMessages, InEditor}
 use Rattle.lsp_replay.specs.declared.form.Form.{Form}

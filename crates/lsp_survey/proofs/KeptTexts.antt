@@ -3,27 +3,19 @@ use Rattle.std.specs.Prelude.{if◌then◌else◌, unwrap_or}
 use Rattle.std.specs.Option.{option_or}
 use Rattle.std.proofs.Common.{◌≡◌, ℕ, Bool, true, false, List, [], ◌∷◌, ◌++◌, Option, Some, None, refl}
 use Rattle.std.proofs.Common.{sym, ap, ◌∙◌}
-use Rattle.lsp_docs.specs.Documents.{held, Terms}
-use Rattle.lsp_frame.specs.Bounds.{Bounds}
-use Rattle.lsp_frame.specs.declared.format.Format.{Format}
+use Rattle.lsp_replay.specs.Common.{bad_log_of, Bounds, calls, end_answer, ending, events_of}
+use Rattle.lsp_replay.specs.Common.{first_from, first_of, Format, Heard, heard_events, held}
+use Rattle.lsp_replay.specs.Common.{held_answer, IsTold, kept_before, log_terms, notes_of, summary}
+use Rattle.lsp_replay.specs.Common.{Tail, Terms, text_at, text_behind, up_to_editor}
 use Rattle.lsp_log.specs.Log.{Record}
-use Rattle.lsp_replay.specs.Run.{IsTold, Tail}
-use Rattle.lsp_replay.specs.Telling.{kept_before}
-use Rattle.lsp_replay.specs.TextAnswers.{TextAsked, answer_by, end_answer, is_reached, text_at}
-use Rattle.lsp_replay.specs.TextAnswers.{text_behind}
+use Rattle.lsp_replay.specs.TextAnswers.{TextAsked, answer_by, is_reached}
 use Rattle.lsp_replay.proofs.Seeing.{events-push}
 use Rattle.lsp_replay.proofs.TextRuns.{is_text}
 use Rattle.lsp_survey.specs.KeptText.{AnswersKept, kept_answer}
 use Rattle.lsp_survey.specs.SurveyLaws.{KeptTextIsOfSurvey}
 use Rattle.lsp_survey.proofs.SurveySteps.{survey_told}
-use Rattle.lsp_verdict.specs.Event.{calls}
-use Rattle.lsp_verdict.specs.Heard.{Heard, heard_events, notes_of}
-use Rattle.lsp_verdict.specs.LookBack.{first_from, first_of}
-use Rattle.lsp_verdict.specs.Offences.{events_of}
-use Rattle.lsp_verdict.specs.Outcome.{ending, log_terms}
-use Rattle.lsp_verdict.specs.Shown.{held_answer, up_to_editor}
 use Rattle.lsp_verdict.specs.Survey as survey
-use Rattle.lsp_verdict.specs.Verdict.{Verdict, bad_log_of, summary}
+use Rattle.lsp_verdict.specs.Verdict.{Verdict}
 use Rattle.lsp_verdict.specs.declared.completeness.Completeness.TheVariants.{Ignored}
 
 abbrev asked : ℕ → List ℕ → TextAsked

@@ -7,16 +7,16 @@ use Rattle.std.proofs.Common.{refl, sym, ap, subst, ◌∙◌}
 use Rattle.std.proofs.Math.Bool.{and-false, and-true}
 use Rattle.std.proofs.lemmas.List.{map-append}
 use Rattle.lsp_docs.specs.State as docs
-use Rattle.lsp_docs.specs.Calls.{Call, shows, uri_of}
-use Rattle.lsp_docs.specs.Documents.{Terms}
-use Rattle.lsp_rpc.specs.Ident.{id_view}
-use Rattle.lsp_rpc.specs.Message.{Message}
-use Rattle.lsp_rpc.specs.View.{message_view}
-use Rattle.lsp_rpc.specs.declared.act.Spoken.{Spoken}
+use Rattle.lsp_replay.specs.Common.{answered_by, asked_by, asks, breaks_handshake, broken}
+use Rattle.lsp_replay.specs.Common.{brought_by, Call, calls, content, Counts, Event, events_of}
+use Rattle.lsp_replay.specs.Common.{first_of, follows, follows_bytes, follows_passed, Heard}
+use Rattle.lsp_replay.specs.Common.{heard_events, Holds, id_view, is_on_lost, is_passed}
+use Rattle.lsp_replay.specs.Common.{is_reopened, is_unheard, IsNoted, IsReading, kept_before}
+use Rattle.lsp_replay.specs.Common.{kept_of, leaves_unheard, leaves_unsynced, may_answer, MaySpeak}
+use Rattle.lsp_replay.specs.Common.{Message, message, message_view, Noted, notes_of, offence}
+use Rattle.lsp_replay.specs.Common.{passes, Reads, rule_at, rule_of, sent_in, show, shows, Side}
+use Rattle.lsp_replay.specs.Common.{snapshot, Spoken, Stood, Terms, uri_of}
 use Rattle.lsp_session.specs.State as session
-use Rattle.lsp_types.specs.declared.side.Side.{Side}
-use Rattle.lsp_replay.specs.Standing.{Holds}
-use Rattle.lsp_replay.specs.Telling.{MaySpeak, Stood, kept_before, rule_of}
 use Rattle.lsp_replay.proofs.Seeing.{events-push}
 use Rattle.lsp_survey.specs.Lost.{AreLosses, HoldsSent, IsMessageOf, IsNotedIn, WasTold}
 use Rattle.lsp_survey.specs.Lost.{breaks_by, follows_of, unheard_with, unsynced_with}
@@ -28,19 +28,15 @@ use Rattle.lsp_survey.specs.declared.notes.sides.Sides.{Sides}
 use Rattle.lsp_survey.proofs.Noting.{if_some, notes_stay, nothing_said}
 use Rattle.lsp_survey.proofs.PassedSteps.{fault_passes, kept_passes}
 use Rattle.lsp_survey.proofs.SidesSteps.{sides_pushed}
-use Rattle.lsp_verdict.specs.Event.{calls, Event, fault, message, sent_in, snapshot}
+use Rattle.lsp_verdict.specs.Event.{fault}
 use Rattle.lsp_verdict.specs.Given.{raw_view}
-use Rattle.lsp_verdict.specs.Heard.{Heard, heard_events, notes_of}
-use Rattle.lsp_verdict.specs.LookBack.{first_of}
-use Rattle.lsp_verdict.specs.Offences.{IsMalformed, IsNoted, IsReading, Noted, answered_by}
-use Rattle.lsp_verdict.specs.Offences.{asked_by, asks, breaks_handshake, broken_by, brought_by}
-use Rattle.lsp_verdict.specs.Offences.{events_of, follows, follows_bytes, follows_passed, is_lost}
-use Rattle.lsp_verdict.specs.Offences.{is_on_lost, is_passed, leaves_unheard, is_unsynced}
-use Rattle.lsp_verdict.specs.Offences.{leaves_unsynced, is_reopened, is_unheard, kept_of, left_by}
-use Rattle.lsp_verdict.specs.Offences.{may_answer, passes, rule_at, said_at}
-use Rattle.lsp_verdict.specs.Placed.{Raw, Reads, broken, content, show}
-use Rattle.lsp_verdict.specs.Verdict.{offence}
-use Rattle.lsp_verdict.specs.declared.counts.Counts.{Counts}
+use Rattle.lsp_verdict.specs.Offences.{IsMalformed}
+use Rattle.lsp_verdict.specs.Offences.{broken_by}
+use Rattle.lsp_verdict.specs.Offences.{is_lost}
+use Rattle.lsp_verdict.specs.Offences.{is_unsynced}
+use Rattle.lsp_verdict.specs.Offences.{left_by}
+use Rattle.lsp_verdict.specs.Offences.{said_at}
+use Rattle.lsp_verdict.specs.Placed.{Raw}
 use Rattle.lsp_verdict.specs.declared.raw.Raw as lent
 use Rattle.lsp_verdict.specs.declared.raw.Raw.TheVariants as lent_as
 use Rattle.lsp_verdict.proofs.Offences.Steps.{broken-push, events_of-push, is_lost-push}

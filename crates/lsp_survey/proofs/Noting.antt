@@ -5,9 +5,8 @@ use Rattle.std.specs.Prelude.{if◌then◌else◌, unwrap_or, Vec, is_some}
 use Rattle.std.specs.Str.{bytes_eq}
 use Rattle.std.proofs.lemmas.Bool.{cases_Bool}
 use Rattle.lsp_docs.proofs.Words.{uri_is, uri_same}
-use Rattle.lsp_docs.specs.Calls.{Call, uri_of}
+use Rattle.lsp_replay.specs.Common.{Call, folded, uri_of}
 use Rattle.lsp_verdict.specs.Offences.{renews, left_lost}
-use Rattle.lsp_verdict.specs.Spelling.{folded}
 use Rattle.lsp_survey.specs.Notes.{AreAfter, Leaves, PutsSpelling, Sets, is_noted}
 use Rattle.lsp_survey.specs.Notes.{lost_among, spelling_in}
 use Rattle.lsp_survey.specs.declared.notes.note.Spelling.{Spelling}

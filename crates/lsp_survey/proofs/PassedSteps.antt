@@ -2,23 +2,19 @@
 use Rattle.std.specs.Prelude.{if◌then◌else◌, ◌&&◌, ◌||◌, ◌==◌, option_and_then, unwrap_or}
 use Rattle.std.proofs.Common.{◌≡◌, Bool, List, Option, refl, sym, ap, ◌∙◌, ℕ, true, false}
 use Rattle.std.proofs.Common.{Some, None, subst}
-use Rattle.lsp_rpc.specs.Ident.{Ident, id_view, same_id}
-use Rattle.lsp_rpc.specs.declared.message.Id.{Id}
-use Rattle.lsp_rpc.specs.Message.{Message, request, notification, response, result, error}
-use Rattle.lsp_rpc.specs.Outline.{outline}
-use Rattle.lsp_rpc.specs.View.{message_view}
+use Rattle.lsp_replay.specs.Common.{answered_by, answered_from, asked_by, asked_from, error, Event}
+use Rattle.lsp_replay.specs.Common.{follows_passed, Id, id_view, Ident, is_passed, is_unheard}
+use Rattle.lsp_replay.specs.Common.{leaves_unheard, Message, message_view, Noted, notification}
+use Rattle.lsp_replay.specs.Common.{other_side, outline, passes, request, request_id, response}
+use Rattle.lsp_replay.specs.Common.{response_id, result, same_id, same_side, Side, Terms}
 use Rattle.lsp_rpc.specs.declared.message.Message as lent
 use Rattle.lsp_rpc.specs.declared.message.Message.TheVariants as sends
 use Rattle.serde_json.specs.Data.{Data}
-use Rattle.lsp_docs.specs.Documents.{Terms}
-use Rattle.lsp_session.specs.Sent.{answered_from, other_side, response_id, same_side}
 use Rattle.lsp_types.specs.declared.rules.TheConstants as rules
-use Rattle.lsp_types.specs.declared.side.Side.{Side}
 use Rattle.lsp_types.specs.declared.side.Side.TheVariants.{Editor, Server}
-use Rattle.lsp_verdict.specs.Event.{Event, fault}
-use Rattle.lsp_verdict.specs.Offences.{Noted, answered_by, asked_by, asked_from, follows_passed}
-use Rattle.lsp_verdict.specs.Offences.{is_any_passed, is_initialized_by, is_passed, is_unheard}
-use Rattle.lsp_verdict.specs.Offences.{leaves_unheard, passes, request_id, tells_initialized}
+use Rattle.lsp_verdict.specs.Event.{fault}
+use Rattle.lsp_verdict.specs.Offences.{is_any_passed, is_initialized_by}
+use Rattle.lsp_verdict.specs.Offences.{tells_initialized}
 use Rattle.lsp_survey.specs.Notes.{ArePassed, Passes, SetsRequest, SetsAny, has_any, has_passed}
 use Rattle.lsp_survey.specs.Lost.{IsMessageOf}
 use Rattle.lsp_survey.specs.declared.notes.passed.Passed.{Passed}

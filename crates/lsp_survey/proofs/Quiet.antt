@@ -3,17 +3,12 @@ use Rattle.std.specs.Prelude.{◌||◌, filter, is_some, not}
 use Rattle.std.proofs.Common.{◌≡◌, ℕ, Bool, true, false, List, [], ◌∷◌, Option, Some, None, refl}
 use Rattle.std.proofs.Common.{◌∙◌}
 use Rattle.lsp_replay.specs.JsonRun.{IsQuiet}
-use Rattle.lsp_replay.specs.Lines.{shown_line}
-use Rattle.lsp_replay.specs.Telling.{rule_of}
+use Rattle.lsp_replay.specs.Common.{Causes, Every, Heard, Lines, Listing, notes_of, Offence}
+use Rattle.lsp_replay.specs.Common.{offence_at, rule_of, shown_line}
 use Rattle.lsp_survey.specs.Lost.{may_lose}
 use Rattle.lsp_survey.specs.Reported.{is_every, lines_of}
 use Rattle.lsp_survey.specs.SurveyRun.{has_lines, said_by, survey_run}
 use Rattle.lsp_survey.specs.declared.survey.Options.{Options}
-use Rattle.lsp_verdict.specs.Heard.{Heard, notes_of}
-use Rattle.lsp_verdict.specs.Offences.{Offence, offence_at}
-use Rattle.lsp_verdict.specs.declared.lines.Lines.{Lines}
-use Rattle.lsp_verdict.specs.declared.listing.Listing.{Listing}
-use Rattle.lsp_verdict.specs.declared.listing.Listing.TheVariants.{Causes, Every}
 
 -- of two that fail together the second fails
 second : (a b : Bool) → (a || b) ≡ false → b ≡ false

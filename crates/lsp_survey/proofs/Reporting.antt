@@ -9,14 +9,12 @@ use Rattle.std.proofs.lemmas.List.Concat.{flat_map-append}
 use Rattle.lsp_survey.specs.Reported.{IsTally, closing, count_line, is_every, lines_of}
 use Rattle.lsp_survey.specs.Reported.{verdict_lines}
 use Rattle.lsp_survey.specs.declared.offence_count.OffenceCount.{OffenceCount}
-use Rattle.lsp_verdict.specs.Given.{offence_view}
-use Rattle.lsp_verdict.specs.Offences.{Offence}
-use Rattle.lsp_verdict.specs.Report.{line, report}
-use Rattle.lsp_verdict.specs.Survey.{all_report, bad_lines, first_verdict, found_line}
-use Rattle.lsp_verdict.specs.Survey.{offence_lines, shown_of}
-use Rattle.lsp_verdict.specs.Verdict.{Summary, Verdict}
-use Rattle.lsp_verdict.specs.declared.listing.Listing.{Listing}
-use Rattle.lsp_verdict.specs.declared.listing.Listing.TheVariants.{Causes, Every}
+use Rattle.lsp_replay.specs.Common.{all_report, bad_lines, Causes, Every, first_verdict, Listing}
+use Rattle.lsp_replay.specs.Common.{Offence, offence_lines, offence_view, report, Summary}
+use Rattle.lsp_verdict.specs.Report.{line}
+use Rattle.lsp_verdict.specs.Survey.{found_line}
+use Rattle.lsp_verdict.specs.Survey.{shown_of}
+use Rattle.lsp_verdict.specs.Verdict.{Verdict}
 use Rattle.lsp_verdict.specs.declared.offence.Offence as code
 use Rattle.lsp_verdict.proofs.Finding.{map_one}
 use Rattle.lsp_verdict.proofs.ExactCounts.{capped_is}

@@ -3,32 +3,20 @@ use Rattle.std.specs.Prelude.{map, option_map, option_to_list}
 use Rattle.std.specs.List.{cons_option}
 use Rattle.std.proofs.Common.{◌≡◌, ℕ, ◌≤◌, Bool, true, false, List, [], ◌∷◌, ◌++◌, length, Option}
 use Rattle.std.proofs.Common.{Some, None, refl, arith, ◌+◌, ◌<◌, ◌^◌, sym, ap, ◌∙◌}
-use Rattle.lsp_log.specs.declared.fault.LogCode.{LogCode}
+use Rattle.lsp_replay.specs.Common.{as_given, by_itself, Completeness, Counts, decoder_of}
+use Rattle.lsp_replay.specs.Common.{each_from, Event, first_end, first_no, first_verdict, Follows}
+use Rattle.lsp_replay.specs.Common.{Heard, heard_events, IsEnd, kept_of, LogCode, no_next, Offence}
+use Rattle.lsp_replay.specs.Common.{offence_view, report, sent_in, Stood, summary, Tail, Terms, Who}
+use Rattle.lsp_replay.specs.Common.{yes}
 use Rattle.lsp_session.specs.Incomplete.{incomplete}
 use Rattle.lsp_session.specs.State as session
-use Rattle.lsp_verdict.specs.Event.{Event, sent_in}
-use Rattle.lsp_verdict.specs.LookBack.{each_from}
-use Rattle.lsp_verdict.specs.Survey.{by_itself, first_ends, lacks_listed, rests_listed}
-use Rattle.lsp_verdict.specs.Survey.{first_verdict}
-use Rattle.lsp_verdict.specs.Verdict.{no_next, Verdict, first_no, summary, yes}
-use Rattle.lsp_verdict.specs.declared.completeness.Completeness.{Completeness}
+use Rattle.lsp_verdict.specs.Survey.{first_ends, lacks_listed, rests_listed}
+use Rattle.lsp_verdict.specs.Verdict.{Verdict}
 use Rattle.lsp_verdict.specs.declared.completeness.Completeness.TheVariants.{Ignored, Required}
-use Rattle.lsp_verdict.specs.declared.verdict.Who.{Who}
 use Rattle.lsp_verdict.specs.declared.verdict.Who.TheVariants as who
-use Rattle.lsp_verdict.specs.Given.{as_given, offence_view}
-use Rattle.lsp_verdict.specs.Heard.{Heard, heard_events}
-use Rattle.lsp_verdict.specs.Offences.{Offence, kept_of}
-use Rattle.lsp_verdict.specs.Report.{report}
-use Rattle.lsp_verdict.specs.declared.counts.Counts.{Counts}
 use Rattle.lsp_verdict.proofs.ExactCounts.{yes_exact}
 use Rattle.lsp_docs.specs.State as docs
-use Rattle.lsp_docs.specs.Documents.{Terms}
-use Rattle.lsp_replay.specs.Run.{Tail}
-use Rattle.lsp_replay.specs.SessionEnd.{first_end}
-use Rattle.lsp_replay.specs.Standing.{Follows}
 use Rattle.lsp_replay.specs.Streams as streams
-use Rattle.lsp_replay.specs.Streams.{decoder_of}
-use Rattle.lsp_replay.specs.Telling.{IsEnd, Stood}
 use Rattle.lsp_replay.specs.declared.log_events.End.{End}
 use Rattle.lsp_replay.specs.declared.log_events.End.TheVariants.{Bad, Sound}
 use Rattle.lsp_replay.specs.declared.log_events.LogEvents.{LogEvents}

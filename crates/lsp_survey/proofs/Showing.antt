@@ -2,8 +2,8 @@
 use Rattle.std.specs.Prelude.{filter}
 use Rattle.std.proofs.Common.{◌≡◌, ℕ, List, [], ◌∷◌, ◌++◌, Option, Some, None, inl, inr, refl, sym, ap}
 use Rattle.std.proofs.Common.{subst, ◌∙◌, append_assoc, append-nil}
-use Rattle.lsp_docs.specs.Documents.{Terms}
-use Rattle.lsp_replay.specs.Run.{Tail}
+use Rattle.lsp_replay.specs.Common.{Every, Heard, Lines, log_terms, notes_of, Offence, offence_at}
+use Rattle.lsp_replay.specs.Common.{offence_lines, Tail, Terms}
 use Rattle.lsp_replay.specs.RunLaws.{IsAllSaid, SaysOn}
 use Rattle.lsp_survey.specs.Reported.{lines_of}
 use Rattle.lsp_survey.specs.SurveyLaws.{LeavesOutLines, Piece, ShowsReport, bytes_of, is_offending}
@@ -11,13 +11,7 @@ use Rattle.lsp_survey.specs.SurveyLaws.{kept_line, offending}
 use Rattle.lsp_survey.specs.SurveyRun.{report_run, said_by, show_all_run}
 use Rattle.lsp_survey.specs.declared.survey.Options.{Options}
 use Rattle.lsp_survey.proofs.SurveyRuns.{one_survey_output}
-use Rattle.lsp_verdict.specs.Heard.{Heard, notes_of}
-use Rattle.lsp_verdict.specs.Offences.{Offence, offence_at}
-use Rattle.lsp_verdict.specs.Outcome.{log_terms}
-use Rattle.lsp_verdict.specs.Survey.{offence_lines}
 use Rattle.lsp_verdict.specs.declared.completeness.Completeness.TheVariants.{Ignored}
-use Rattle.lsp_verdict.specs.declared.lines.Lines.{Lines}
-use Rattle.lsp_verdict.specs.declared.listing.Listing.TheVariants.{Every}
 use Rattle.lsp_verdict.specs.declared.outcome.Outcome.{Outcome}
 
 abbrev pub shown : Lines → Options

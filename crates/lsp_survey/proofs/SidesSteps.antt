@@ -3,16 +3,15 @@ use Rattle.std.specs.Prelude.{nat_le, ◌&&◌, ◌||◌, ◌==◌, if◌then◌
 use Rattle.std.proofs.Common.{◌≡◌, ℕ, Bool, true, false, List, [], ◌∷◌, ◌++◌, Some, None, refl, sym}
 use Rattle.std.proofs.Common.{ap, ◌∙◌}
 use Rattle.std.proofs.Math.Bool.{or-false}
-use Rattle.lsp_rpc.specs.Message.{Message, request, notification, response, result, error}
-use Rattle.lsp_rpc.specs.Outline.{outline}
-use Rattle.lsp_session.specs.Sent.{same_side, other_side}
+use Rattle.lsp_replay.specs.Common.{error, Event, follows_bytes, is_nameless, is_within, may_answer}
+use Rattle.lsp_replay.specs.Common.{Message, message, notification, other_side, outline, request}
+use Rattle.lsp_replay.specs.Common.{response, result, same_side, Side, snapshot, wants_other}
 use Rattle.lsp_types.specs.declared.rules.TheConstants as rules
-use Rattle.lsp_types.specs.declared.side.Side.{Side}
 use Rattle.lsp_types.specs.declared.side.Side.TheVariants.{Editor, Server}
-use Rattle.lsp_verdict.specs.Event.{Event, message, fault, snapshot}
-use Rattle.lsp_verdict.specs.Offences.{follows_bytes, has_broken, has_no_message, is_frame_fault}
-use Rattle.lsp_verdict.specs.Offences.{is_nameless, is_no_message, is_unread, is_within, may_answer}
-use Rattle.lsp_verdict.specs.Offences.{unread_by, wants_other}
+use Rattle.lsp_verdict.specs.Event.{fault}
+use Rattle.lsp_verdict.specs.Offences.{has_broken, has_no_message, is_frame_fault}
+use Rattle.lsp_verdict.specs.Offences.{is_no_message, is_unread}
+use Rattle.lsp_verdict.specs.Offences.{unread_by}
 use Rattle.lsp_verdict.proofs.Offences.Steps.{has_broken-push, has_no_message-push, is_unread-push}
 use Rattle.lsp_survey.specs.Notes.{failed_on, read_on, side_in, side_of, sides_after, sides_of}
 use Rattle.lsp_survey.specs.Notes.{message_follows, sides_read}

@@ -4,12 +4,14 @@ use Rattle.std.specs.Prelude.{map}
 use Rattle.std.proofs.Common.{◌≡◌, ◌⊎◌, ℕ, List, [], ◌∷◌, ◌++◌, Option, Some, None, false, inl, inr}
 use Rattle.std.proofs.Common.{refl, sym, ap, subst, ◌∙◌, append-nil, append_assoc}
 use Rattle.std.proofs.lemmas.List.{map-append}
-use Rattle.lsp_docs.specs.Documents.{Terms}
-use Rattle.lsp_frame.specs.Bounds.{Bounds, IsInRange}
-use Rattle.lsp_frame.specs.declared.format.Format.{Format}
+use Rattle.lsp_replay.specs.Common.{all_report, AnswersVerdict, bad_log_of, Bounds, by_itself}
+use Rattle.lsp_replay.specs.Common.{Completeness, each_from, ending, EndsAfter, Format}
+use Rattle.lsp_replay.specs.Common.{HasOneOutput, Heard, heard_events, IsInRange, IsJudged}
+use Rattle.lsp_replay.specs.Common.{IsPassed, IsTold, IsVerdictBy, kept_of, Listing, log_terms}
+use Rattle.lsp_replay.specs.Common.{notes_of, Offence, offence_at, offences, Run, StopsIn, Summary}
+use Rattle.lsp_replay.specs.Common.{summary, Tail, Terms}
 use Rattle.lsp_log.specs.Log.{Record}
-use Rattle.lsp_replay.specs.Run.{EndsAfter, IsJudged, IsPassed, IsTold, Run, StopsIn, Tail}
-use Rattle.lsp_replay.specs.RunLaws.{AnswersBy, AnswersVerdict, CanHold, HasOneOutput, SaysOn}
+use Rattle.lsp_replay.specs.RunLaws.{AnswersBy, CanHold, SaysOn}
 use Rattle.lsp_replay.proofs.GivenVerdicts.{AllGiven, all_given, ends_given, some_judged}
 use Rattle.lsp_replay.proofs.Outputs.{has_one, judged_same}
 use Rattle.lsp_replay.proofs.RunLaws.{answers_verdict}
@@ -20,16 +22,9 @@ use Rattle.lsp_survey.specs.SurveyRun.{end_said, event_said, report_run, said_by
 use Rattle.lsp_survey.specs.declared.survey.Options.{Options}
 use Rattle.lsp_survey.proofs.Reporting.{lines_append, lines_none, report_is}
 use Rattle.lsp_survey.proofs.SurveySteps.{survey_told}
-use Rattle.lsp_verdict.specs.Complete.{IsVerdictBy}
-use Rattle.lsp_verdict.specs.Heard.{Heard, heard_events, notes_of}
-use Rattle.lsp_verdict.specs.LookBack.{each_from}
-use Rattle.lsp_verdict.specs.Offences.{Offence, kept_of, offence_at, offences}
-use Rattle.lsp_verdict.specs.Outcome.{ending, log_terms}
-use Rattle.lsp_verdict.specs.Survey.{all_report, by_itself, found_in}
-use Rattle.lsp_verdict.specs.Verdict.{Verdict, Summary, bad_log_of, summary}
-use Rattle.lsp_verdict.specs.declared.completeness.Completeness.{Completeness}
+use Rattle.lsp_verdict.specs.Survey.{found_in}
+use Rattle.lsp_verdict.specs.Verdict.{Verdict}
 use Rattle.lsp_verdict.specs.declared.completeness.Completeness.TheVariants.{Ignored, Required}
-use Rattle.lsp_verdict.specs.declared.listing.Listing.{Listing}
 use Rattle.lsp_verdict.specs.declared.outcome.Outcome.{Outcome}
 use Rattle.lsp_verdict.proofs.Completing.{some_complete_verdict}
 use Rattle.lsp_verdict.proofs.Logs.{some_verdict}

@@ -6,29 +6,24 @@ use Rattle.std.specs.List.{cons_option}
 use Rattle.std.specs.Prelude.{◌||◌, map, not, option_map, unwrap_or}
 use Rattle.std.proofs.Math.Bool.{or-true}
 use Rattle.std.proofs.lemmas.List.{length-map, map-append}
-use Rattle.lsp_frame.specs.Bounds.{Bounds}
-use Rattle.lsp_frame.specs.declared.format.Format.{Format}
+use Rattle.lsp_replay.specs.Common.{bad_log_of, Bounds, by_itself, Closes, Completeness, decoder_of}
+use Rattle.lsp_replay.specs.Common.{ending, first_no, first_verdict, follows, Format, Heard}
+use Rattle.lsp_replay.specs.Common.{heard_events, IsEnd, IsSurvey, IsTold, kept_of, log_terms}
+use Rattle.lsp_replay.specs.Common.{no_by, Noted, notes_of, Offence, offence_at, offences, rule_of}
+use Rattle.lsp_replay.specs.Common.{Summary, summary, Tail, Terms, verdict_view}
 use Rattle.lsp_log.specs.Log.{Record}
-use Rattle.lsp_replay.specs.Run.{IsTold, Tail}
 use Rattle.lsp_replay.specs.LogEvents.{flaw_of}
 use Rattle.lsp_replay.specs.Streams as streams
-use Rattle.lsp_replay.specs.Streams.{decoder_of}
-use Rattle.lsp_replay.specs.Telling.{Closes, IsEnd, rule_of}
 use Rattle.lsp_replay.specs.declared.log_events.End.{End}
 use Rattle.lsp_replay.specs.declared.log_events.LogEvents.{LogEvents}
-use Rattle.lsp_verdict.specs.Heard.{Heard, heard_events, notes_of, raws_of}
-use Rattle.lsp_verdict.specs.Outcome.{ending, log_terms}
-use Rattle.lsp_verdict.specs.Survey.{IsSurvey, found_in, by_itself, first_verdict}
-use Rattle.lsp_verdict.specs.Verdict.{bad_log_of, summary, Summary, Verdict, first_no, no_by}
-use Rattle.lsp_verdict.specs.declared.completeness.Completeness.{Completeness}
-use Rattle.lsp_verdict.specs.Given.{verdict_view}
-use Rattle.lsp_verdict.specs.Offences.{Noted, Offence, follows, kept_of, offence_at, offence_by}
-use Rattle.lsp_verdict.specs.Offences.{offences}
+use Rattle.lsp_verdict.specs.Heard.{raws_of}
+use Rattle.lsp_verdict.specs.Survey.{found_in}
+use Rattle.lsp_verdict.specs.Verdict.{Verdict}
+use Rattle.lsp_verdict.specs.Offences.{offence_by}
 use Rattle.lsp_verdict.specs.declared.outcome.Outcome.TheVariants.{Judged}
 use Rattle.lsp_verdict.specs.declared.verdict.Verdict as code
 use Rattle.lsp_verdict.proofs.Offences.Offending.{nothing_listed}
 use Rattle.lsp_verdict.proofs.Offences.Steps.{offences-push}
-use Rattle.lsp_docs.specs.Documents.{Terms}
 use Rattle.lsp_types.specs.declared.side.Side.TheVariants.{Editor, Server}
 use Rattle.lsp_survey.specs.Lost.{follows_at, may_lose}
 use Rattle.lsp_survey.specs.Reported.{IsTally, closing, count_line, is_every, lines_of}

@@ -1,15 +1,10 @@
 -- The text that is held after a message of the editor's, where each event that offends is skipped.
 use Rattle.std.specs.Prelude.{◌≡◌, ℕ, List, [], Option, Some, None, true}
-use Rattle.lsp_docs.specs.Documents.{held, Terms}
-use Rattle.lsp_frame.specs.Bounds.{Bounds}
-use Rattle.lsp_replay.specs.Run.{Run}
-use Rattle.lsp_replay.specs.TextAnswers.{end_answer, text_run}
-use Rattle.lsp_verdict.specs.Event.{calls, Event}
-use Rattle.lsp_verdict.specs.Offences.{Offence, events_of, kept_of}
-use Rattle.lsp_verdict.specs.Outcome.{log_terms}
-use Rattle.lsp_verdict.specs.Shown.{TextAnswer, held_answer, up_to_editor}
-use Rattle.lsp_verdict.specs.Survey.{IsSurvey}
-use Rattle.lsp_verdict.specs.Verdict.{Summary, Verdict}
+use Rattle.lsp_replay.specs.Common.{Bounds, calls, end_answer, Event, events_of, held, held_answer}
+use Rattle.lsp_replay.specs.Common.{IsSurvey, kept_of, log_terms, Offence, Run, Summary, Terms}
+use Rattle.lsp_replay.specs.Common.{TextAnswer, up_to_editor}
+use Rattle.lsp_replay.specs.TextAnswers.{text_run}
+use Rattle.lsp_verdict.specs.Verdict.{Verdict}
 use Rattle.lsp_verdict.specs.declared.completeness.Completeness.TheVariants.{Ignored}
 
 -- **the run `text --all`**, for the editor's message of this number and a URI

@@ -1,27 +1,21 @@
 -- What the offences so far have left lost.
 use Rattle.std.specs.Prelude.{◌≡◌, ◌&&◌, ◌||◌, ◌∷◌, ◌++◌, [], ℕ, List, Bool, false, true, Option}
 use Rattle.std.specs.Prelude.{None, Some, is_some, option_and_then, option_map, unwrap_or}
-use Rattle.lsp_docs.specs.Calls.{Call}
-use Rattle.lsp_docs.specs.Documents.{Terms}
-use Rattle.lsp_replay.specs.Telling.{rule_of}
-use Rattle.lsp_rpc.specs.Ident.{id_view}
-use Rattle.lsp_rpc.specs.Message.{Message}
-use Rattle.lsp_rpc.specs.Outline.{outline}
-use Rattle.lsp_rpc.specs.declared.message.Id.{Id}
-use Rattle.lsp_session.specs.Sent.{Sent}
+use Rattle.lsp_replay.specs.Common.{asks, breaks_handshake, broken, brought_by, Call, calls}
+use Rattle.lsp_replay.specs.Common.{content, Event, events_of, first_of, follows, Heard, Id}
+use Rattle.lsp_replay.specs.Common.{id_view, is_passed, is_reopened, is_unheard, kept_of}
+use Rattle.lsp_replay.specs.Common.{leaves_unheard, leaves_unsynced, may_answer, Message, message}
+use Rattle.lsp_replay.specs.Common.{Noted, notes_of, outline, rule_of, Sent, sent_in, show, Side}
+use Rattle.lsp_replay.specs.Common.{Terms}
 use Rattle.lsp_session.specs.State as session
 use Rattle.lsp_session.specs.State.{Stands}
 use Rattle.lsp_survey.specs.Notes.{Leaves, is_noted, ArePassed, has_passed, sides_after, sides_of}
 use Rattle.lsp_survey.specs.declared.losses.Losses.{Losses}
-use Rattle.lsp_types.specs.declared.side.Side.{Side}
-use Rattle.lsp_verdict.specs.Event.{calls, Event, message, sent_in}
-use Rattle.lsp_verdict.specs.Heard.{Heard, notes_of}
-use Rattle.lsp_verdict.specs.LookBack.{first_of}
-use Rattle.lsp_verdict.specs.Offences.{Noted, asks, breaks_handshake, broken_by, brought_by}
-use Rattle.lsp_verdict.specs.Offences.{events_of, follows, is_handshake_lost, is_lost, is_passed}
-use Rattle.lsp_verdict.specs.Offences.{is_reopened, leaves_unheard, is_unsynced, leaves_unsynced}
-use Rattle.lsp_verdict.specs.Offences.{is_unheard, kept_of, may_answer, wants_handshake, wants_text}
-use Rattle.lsp_verdict.specs.Placed.{Raw, broken, content, show}
+use Rattle.lsp_verdict.specs.Offences.{broken_by}
+use Rattle.lsp_verdict.specs.Offences.{is_handshake_lost, is_lost}
+use Rattle.lsp_verdict.specs.Offences.{is_unsynced}
+use Rattle.lsp_verdict.specs.Offences.{wants_handshake, wants_text}
+use Rattle.lsp_verdict.specs.Placed.{Raw}
 
 -- **on these terms this is lost after these events**
 pub record AreLosses (terms : Terms) (l : Losses) (notes : List Noted) : Type 0 where

@@ -5,19 +5,16 @@ use Rattle.std.specs.Prelude.{option_and_then, unwrap_or, Vec, ◌&&◌, nat_le}
 use Rattle.std.specs.Map.{lookup}
 use Rattle.std.specs.Global.{Global}
 use Rattle.std.specs.Str.{bytes_eq}
-use Rattle.lsp_rpc.specs.Ident.{Ident, id_view, same_id}
-use Rattle.lsp_rpc.specs.declared.message.Id.{Id}
-use Rattle.lsp_rpc.specs.Message.{Message}
-use Rattle.lsp_docs.specs.Calls.{Call, uri_of}
-use Rattle.lsp_verdict.specs.Offences.{asks, brought_by, left_by, request_id, answered_by, asked_by}
-use Rattle.lsp_verdict.specs.Offences.{asked_from, passes, has_broken, has_no_message, is_unread}
-use Rattle.lsp_verdict.specs.Offences.{is_nameless, is_within, wants_other}
-use Rattle.lsp_verdict.specs.Spelling.{folded, is_alike}
-use Rattle.lsp_verdict.specs.Event.{Event, message, fault, snapshot}
+use Rattle.lsp_replay.specs.Common.{answered_by, answered_from, asked_by, asked_from, asks}
+use Rattle.lsp_replay.specs.Common.{brought_by, Call, Event, folded, Id, id_view, Ident}
+use Rattle.lsp_replay.specs.Common.{is_nameless, is_within, Message, message, passes, request_id}
+use Rattle.lsp_replay.specs.Common.{same_id, same_side, Side, snapshot, uri_of, wants_other}
+use Rattle.lsp_verdict.specs.Offences.{left_by}
+use Rattle.lsp_verdict.specs.Offences.{has_broken, has_no_message, is_unread}
+use Rattle.lsp_verdict.specs.Spelling.{is_alike}
+use Rattle.lsp_verdict.specs.Event.{fault}
 use Rattle.lsp_types.specs.declared.rules.TheConstants as rules
-use Rattle.lsp_types.specs.declared.side.Side.{Side}
 use Rattle.lsp_types.specs.declared.side.Side.TheVariants.{Editor, Server}
-use Rattle.lsp_session.specs.Sent.{answered_from, same_side}
 use Rattle.lsp_uris.specs.Held.{asked_in, has_uri}
 use Rattle.lsp_survey.specs.declared.notes.malformed.Malformed.{Malformed}
 use Rattle.lsp_survey.specs.declared.notes.note.Spelling.{Spelling}

@@ -2,15 +2,11 @@
 use Rattle.std.specs.Prelude.{◌≡◌, ℕ, List, [], ◌∷◌, ◌++◌, filter, length, Bool, true, false}
 use Rattle.std.specs.Prelude.{Option, Some, None, option_map}
 use Rattle.std.specs.List.{flat_map}
-use Rattle.lsp_docs.specs.State.{capped}
-use Rattle.lsp_verdict.specs.declared.listing.Listing.{Listing}
-use Rattle.lsp_verdict.specs.declared.listing.Listing.TheVariants.{Causes, Every}
+use Rattle.lsp_replay.specs.Common.{bad_lines, capped, Causes, Every, first_verdict, Listing}
+use Rattle.lsp_replay.specs.Common.{Offence, offence_lines, offence_view, report, Summary}
 use Rattle.lsp_survey.specs.declared.offence_count.OffenceCount.{OffenceCount}
-use Rattle.lsp_verdict.specs.Given.{offence_view}
-use Rattle.lsp_verdict.specs.Offences.{Offence}
-use Rattle.lsp_verdict.specs.Survey.{bad_lines, first_verdict, found_line, offence_lines, shown_of}
-use Rattle.lsp_verdict.specs.Report.{report}
-use Rattle.lsp_verdict.specs.Verdict.{Summary, Verdict}
+use Rattle.lsp_verdict.specs.Survey.{found_line, shown_of}
+use Rattle.lsp_verdict.specs.Verdict.{Verdict}
 
 -- whether those that follow from earlier ones are listed too
 abbrev pub is_every : Listing → Bool

@@ -3,21 +3,15 @@ use Rattle.std.specs.Prelude.{List, Bool, true, false, ℕ, Option, Some, None, 
 use Rattle.std.specs.Prelude.{option_to_list, ◌++◌}
 use Rattle.lsp_types.specs.declared.rules.TheConstants as rules
 use Rattle.lsp_types.specs.declared.side.Side.TheVariants.{Editor, Server}
-use Rattle.lsp_verdict.specs.Event.{Event}
-use Rattle.lsp_verdict.specs.Offences.{Offence, kept_of, offences}
-use Rattle.lsp_verdict.specs.Survey.{by_itself, ends_listed, first_ends, first_verdict}
+use Rattle.lsp_replay.specs.Common.{bad_log_of, by_itself, Completeness, decoder_of, ending}
+use Rattle.lsp_replay.specs.Common.{ends_inside, Event, first_verdict, Heard, heard_events, kept_of}
+use Rattle.lsp_replay.specs.Common.{LogCode, no_next, notes_of, Offence, offences, summary, Tail}
+use Rattle.lsp_replay.specs.Common.{Terms, Who}
+use Rattle.lsp_verdict.specs.Survey.{ends_listed, first_ends}
 use Rattle.lsp_verdict.specs.Survey.{lacks_listed, rests_listed}
-use Rattle.lsp_verdict.specs.Verdict.{no_next, Verdict, bad_log_of, summary}
-use Rattle.lsp_verdict.specs.declared.completeness.Completeness.{Completeness}
-use Rattle.lsp_verdict.specs.declared.verdict.Who.{Who}
+use Rattle.lsp_verdict.specs.Verdict.{Verdict}
 use Rattle.lsp_verdict.specs.declared.verdict.Who.TheVariants as who
-use Rattle.lsp_verdict.specs.Heard.{Heard, heard_events, notes_of}
-use Rattle.lsp_verdict.specs.Outcome.{ending}
-use Rattle.lsp_docs.specs.Documents.{Terms}
-use Rattle.lsp_log.specs.declared.fault.LogCode.{LogCode}
 use Rattle.lsp_replay.specs.LogEvents.{flaw_of}
-use Rattle.lsp_replay.specs.Run.{Tail}
-use Rattle.lsp_replay.specs.Streams.{decoder_of, ends_inside}
 use Rattle.lsp_replay.specs.declared.log_events.End.{End}
 use Rattle.lsp_replay.specs.declared.log_events.LogEvents.{LogEvents}
 

@@ -1,21 +1,16 @@
 -- Laws of the runs that list offences, show all events, or write a text that is held.
 use Rattle.std.specs.Prelude.{◌≡◌, ℕ, List, ◌++◌, Bool, true, false, Option, filter}
 use Rattle.std.specs.List.{flat_map}
-use Rattle.lsp_frame.specs.Bounds.{Bounds, IsInRange}
-use Rattle.lsp_replay.specs.Run.{IsPassed}
-use Rattle.lsp_replay.specs.RunLaws.{AnswersVerdict, HasOneOutput, IsAllSaid, WritesAtItsEnd}
+use Rattle.lsp_replay.specs.Common.{all_report, AnswersVerdict, Bounds, Completeness, Every}
+use Rattle.lsp_replay.specs.Common.{HasOneOutput, IsInRange, IsPassed, IsSurvey, Lines, Listing}
+use Rattle.lsp_replay.specs.Common.{Offence, offence_lines, Summary}
+use Rattle.lsp_replay.specs.RunLaws.{IsAllSaid, WritesAtItsEnd}
 use Rattle.lsp_survey.specs.KeptText.{AnswersKept, kept_text_run}
 use Rattle.lsp_survey.specs.Reported.{is_every}
 use Rattle.lsp_survey.specs.SurveyRun.{report_run, show_all_run}
-use Rattle.lsp_verdict.specs.Offences.{Offence}
 use Rattle.lsp_verdict.specs.Shown.{IsText}
-use Rattle.lsp_verdict.specs.Survey.{IsSurvey, all_report, offence_lines}
-use Rattle.lsp_verdict.specs.Verdict.{Summary, Verdict}
-use Rattle.lsp_verdict.specs.declared.completeness.Completeness.{Completeness}
+use Rattle.lsp_verdict.specs.Verdict.{Verdict}
 use Rattle.lsp_verdict.specs.declared.completeness.Completeness.TheVariants.{Ignored}
-use Rattle.lsp_verdict.specs.declared.lines.Lines.{Lines}
-use Rattle.lsp_verdict.specs.declared.listing.Listing.{Listing}
-use Rattle.lsp_verdict.specs.declared.listing.Listing.TheVariants.{Every}
 use Rattle.lsp_verdict.specs.declared.outcome.Outcome.{Outcome}
 
 -- ---- each log has one output

@@ -1,25 +1,16 @@
 -- What is said where all that is wrong with a log is listed.
 use Rattle.std.specs.Prelude.{◌≡◌, ◌||◌, List, [], ◌∷◌, ◌++◌, ℕ, map, Bool, false, Option, Some}
 use Rattle.std.specs.Prelude.{None, is_some, not}
-use Rattle.lsp_docs.specs.Documents.{Terms}
-use Rattle.lsp_log.specs.declared.fault.LogCode.{LogCode}
-use Rattle.lsp_replay.specs.Lines.{shown_line}
-use Rattle.lsp_replay.specs.Run.{IsJudged, Run}
-use Rattle.lsp_replay.specs.Telling.{rule_of}
+use Rattle.lsp_replay.specs.Common.{bad_log_of, by_itself, Completeness, Every, Heard, heard_events}
+use Rattle.lsp_replay.specs.Common.{IsJudged, Lines, Listing, LogCode, notes_of, Offence}
+use Rattle.lsp_replay.specs.Common.{offence_at, offences, rule_of, Run, shown_line, summary, Terms}
 use Rattle.lsp_survey.specs.Lost.{AreLosses, may_lose}
 use Rattle.lsp_survey.specs.Reported.{IsTally, closing, is_every, lines_of}
 use Rattle.lsp_survey.specs.SessionEnds.{all_found, all_verdict, ends_of}
 use Rattle.lsp_survey.specs.declared.survey.Options.{Options}
 use Rattle.lsp_survey.specs.declared.survey.Survey.{Survey}
-use Rattle.lsp_verdict.specs.Heard.{Heard, heard_events, notes_of}
-use Rattle.lsp_verdict.specs.Offences.{Offence, offence_at, offences}
-use Rattle.lsp_verdict.specs.Survey.{by_itself}
-use Rattle.lsp_verdict.specs.Verdict.{Verdict, bad_log_of, summary}
-use Rattle.lsp_verdict.specs.declared.completeness.Completeness.{Completeness}
+use Rattle.lsp_verdict.specs.Verdict.{Verdict}
 use Rattle.lsp_verdict.specs.declared.completeness.Completeness.TheVariants.{Ignored}
-use Rattle.lsp_verdict.specs.declared.lines.Lines.{Lines}
-use Rattle.lsp_verdict.specs.declared.listing.Listing.{Listing}
-use Rattle.lsp_verdict.specs.declared.listing.Listing.TheVariants.{Every}
 
 -- what is asked of it
 abbrev pub SurveyAsked : Type 0

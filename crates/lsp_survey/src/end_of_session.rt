@@ -1,15 +1,10 @@
 //! How the session of a log ends.
 ghost use Rattle.std.specs.Prelude.{◌≡◌, ◌++◌, ◌+◌, ◌<◌, ◌^◌, List, map, IfOk, OnOk, length};
 ghost use Rattle.std.specs.Prelude.{option_map};
-ghost use Rattle.lsp_docs.specs.Documents.{Terms};
+ghost use Rattle.lsp_replay.specs.Common.{AreCounts, bad_log_of, by_itself, Event, Heard};
+ghost use Rattle.lsp_replay.specs.Common.{offence_view, Stood, Terms, verdict_view};
 ghost use Rattle.lsp_replay.specs.LogEvents.{flaw_of};
-ghost use Rattle.lsp_replay.specs.Telling.{Stood};
 ghost use Rattle.lsp_survey.specs.SessionEnds.{ends_held, listed_by, second_end};
-ghost use Rattle.lsp_verdict.specs.Given.{AreCounts, offence_view, verdict_view};
-ghost use Rattle.lsp_verdict.specs.Event.{Event};
-ghost use Rattle.lsp_verdict.specs.Heard.{Heard};
-ghost use Rattle.lsp_verdict.specs.Survey.{by_itself};
-ghost use Rattle.lsp_verdict.specs.Verdict.{bad_log_of};
 
 use lsp_lined::Lined;
 use lsp_replay::{End, Events, LogEvents, first_end};

@@ -2,26 +2,23 @@
 ghost use Rattle.std.specs.Prelude.{◌≡◌, ◌&&◌, ◌||◌, ◌==◌, ℕ, [], List, Option, None, Some};
 ghost use Rattle.std.specs.Prelude.{IfOk, OnErr, OnOk, false, option_map, true};
 ghost use Rattle.lsp_docs.specs.Calls.{Call as SpecCall};
-ghost use Rattle.lsp_docs.specs.Documents.{Terms};
+ghost use Rattle.lsp_replay.specs.Common.{breaks_handshake, call_view, Event, events_of};
+ghost use Rattle.lsp_replay.specs.Common.{follows_bytes, follows_passed, Heard, Holds, is_on_lost};
+ghost use Rattle.lsp_replay.specs.Common.{is_reopened, IsReading, IsSeen, kept_of, may_answer};
+ghost use Rattle.lsp_replay.specs.Common.{message_view, Noted, notes_of, other_side, response_id};
+ghost use Rattle.lsp_replay.specs.Common.{rule_of, same_side, sent_in, Terms};
 ghost use Rattle.lsp_docs.specs.State as documents;
-ghost use Rattle.lsp_docs.specs.Taken.{call_view};
-ghost use Rattle.lsp_replay.specs.Standing.{Holds};
-ghost use Rattle.lsp_replay.specs.Telling.{IsSeen, rule_of};
 ghost use Rattle.lsp_rpc.specs.Message.{Message as AMessage};
-ghost use Rattle.lsp_rpc.specs.View.{message_view};
-ghost use Rattle.lsp_session.specs.Sent.{other_side, response_id, same_side};
 ghost use Rattle.lsp_session.specs.State.{Stands};
 ghost use Rattle.lsp_survey.specs.Lost.{AreLosses, HoldsSent, IsMessageOf, IsNotedIn, WasTold};
 ghost use Rattle.lsp_survey.specs.Lost.{follows_of, may_lose};
 ghost use Rattle.lsp_survey.specs.Notes.{Leaves, has_any, sides_failed};
 ghost use Rattle.lsp_types.specs.declared.rules.TheConstants as rules;
 ghost use Rattle.lsp_types.specs.declared.side.Side.TheVariants.{Editor};
-ghost use Rattle.lsp_verdict.specs.Event.{Event, fault, sent_in};
-ghost use Rattle.lsp_verdict.specs.Heard.{Heard, notes_of};
+ghost use Rattle.lsp_verdict.specs.Event.{fault};
 ghost use Rattle.lsp_verdict.specs.Given.{raw_view};
-ghost use Rattle.lsp_verdict.specs.Offences.{IsReading, Noted, breaks_handshake, events_of};
-ghost use Rattle.lsp_verdict.specs.Offences.{follows_bytes, follows_passed, is_handshake_lost};
-ghost use Rattle.lsp_verdict.specs.Offences.{is_on_lost, is_reopened, kept_of, may_answer, tells_initialized};
+ghost use Rattle.lsp_verdict.specs.Offences.{is_handshake_lost};
+ghost use Rattle.lsp_verdict.specs.Offences.{tells_initialized};
 
 use crate::notes::{
     Malformed, Notes, Passed, Sides, breaks_handshake, meant_again, note_kept, note_malformed,

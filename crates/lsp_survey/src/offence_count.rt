@@ -1,17 +1,11 @@
 //! How many offences were found, and what is said of them at the end of a log.
 ghost use Rattle.std.specs.Prelude.{◌≡◌, ◌++◌, ◌∷◌, ◌<◌, ◌^◌, ◌||◌, not, [], List, None, IfOk};
 ghost use Rattle.std.specs.Prelude.{OnErr, OnOk, length, map, option_map, string_bytes, true};
-ghost use Rattle.lsp_docs.specs.Documents.{Terms};
-ghost use Rattle.lsp_replay.specs.Standing.{Follows};
-ghost use Rattle.lsp_replay.specs.Telling.{Stood};
+ghost use Rattle.lsp_replay.specs.Common.{as_given, bad_lines, Event, first_no, first_verdict};
+ghost use Rattle.lsp_replay.specs.Common.{Follows, Heard, heard_events, offence_view, report};
+ghost use Rattle.lsp_replay.specs.Common.{Stood, summary, Terms, verdict_view, yes};
 ghost use Rattle.lsp_survey.specs.Reported.{IsTally, count_line, is_every, lines_of, verdict_lines};
-ghost use Rattle.lsp_verdict.specs.Event.{Event};
-ghost use Rattle.lsp_verdict.specs.Given.{as_given, offence_view, verdict_view};
-ghost use Rattle.lsp_verdict.specs.Heard.{Heard, heard_events};
 ghost use Rattle.lsp_verdict.specs.Offences.{Offence as SpecOffence};
-ghost use Rattle.lsp_verdict.specs.Report.{report};
-ghost use Rattle.lsp_verdict.specs.Survey.{bad_lines, first_verdict};
-ghost use Rattle.lsp_verdict.specs.Verdict.{first_no, summary, yes};
 
 use lsp_lined::Lined;
 use lsp_replay::{Events, summary_of};

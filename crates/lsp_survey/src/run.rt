@@ -1,8 +1,7 @@
 //! Reports all that is wrong with a log, or shows all its events, in lines or as JSON.
 ghost use Rattle.lsp_replay.specs.JsonRun.{run_in};
-ghost use Rattle.lsp_replay.specs.Run.{PassesOn};
+ghost use Rattle.lsp_replay.specs.Common.{PassesOn, ports};
 ghost use Rattle.lsp_survey.specs.SurveyRun.{report_run, show_all_run};
-ghost use Rattle.lsp_verdict.specs.Runs.{ports};
 
 use crate::survey::{Options, Survey};
 use lsp_frame::{Limits, Sink, Source};

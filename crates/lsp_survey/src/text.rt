@@ -1,8 +1,7 @@
 //! The text that is held after a message of the editor, where each event that offends is skipped.
 ghost use Rattle.std.specs.Prelude.{◌<◌};
-ghost use Rattle.lsp_replay.specs.Run.{PassesOn};
+ghost use Rattle.lsp_replay.specs.Common.{PassesOn, ports};
 ghost use Rattle.lsp_survey.specs.KeptText.{kept_text_run};
-ghost use Rattle.lsp_verdict.specs.Runs.{ports};
 
 use lsp_frame::{Limits, Sink, Source};
 use lsp_replay::{HeldText, pass};

@@ -10,9 +10,7 @@ use Rattle.std.proofs.lemmas.List.Folds.{find-append}
 use Rattle.std.proofs.lemmas.Option.{none-some, same_Some}
 use Rattle.lsp_docs.proofs.Words.{int_is, less_behind}
 use Rattle.lsp_docs.specs.Calls.{Text}
-use Rattle.lsp_docs.specs.Documents.{Terms, Version, is_after, is_at}
-use Rattle.lsp_docs.specs.Laws.{rises}
-use Rattle.lsp_docs.specs.Snapshots.{has_number}
+use Rattle.lsp_replay.specs.Common.{has_number, is_after, is_at, rises, Terms, Version}
 use Rattle.lsp_trail.specs.Bases.{AddedBy, AddsTo, Begins, HoldsBase, HoldsFrom, HoldsMore}
 use Rattle.lsp_trail.specs.Bases.{IsNewBase, MayBeEqual, Outgrows, base_in, later, numbered}
 use Rattle.lsp_trail.specs.SentEdits.{SentEdits, are_few}

@@ -5,14 +5,9 @@ use Rattle.std.specs.Global.{Global}
 use Rattle.std.proofs.Common.{◌≡◌, Bool, true, false, List, [], ◌∷◌, Option, Some, None, refl, sym}
 use Rattle.std.proofs.Common.{ap, ◌∙◌, arith, inl, inr, subst}
 use Rattle.std.proofs.lemmas.Option.{none-some, same_Some}
-use Rattle.lsp_types.specs.declared.change.Change.{Change}
-use Rattle.lsp_types.specs.declared.change.SyncKind.{SyncKind}
-use Rattle.lsp_types.specs.declared.position.Encoding.{Encoding}
-use Rattle.lsp_text.specs.Edits.{Edit}
-use Rattle.lsp_docs.specs.Calls.{Bytes, Call, changes, uri_of}
-use Rattle.lsp_docs.specs.Documents.{Terms, Version}
+use Rattle.lsp_replay.specs.Common.{Bytes, Call, call_view, Change, changes, Edit, Encoding}
+use Rattle.lsp_replay.specs.Common.{SyncKind, Terms, uri_of, Version}
 use Rattle.lsp_docs.specs.Snapshots.{kept}
-use Rattle.lsp_docs.specs.Taken.{call_view}
 use Rattle.lsp_docs.specs.declared.call.Call as code
 use Rattle.lsp_docs.specs.declared.call.Call.TheVariants.{Opens, Changes, Closes, Saves, Shows}
 use Rattle.lsp_docs.proofs.Words.{uri_same}

@@ -19,14 +19,12 @@ use Rattle.lsp_docs.proofs.Past.{nothing-past, past-rises-to, past-same}
 use Rattle.lsp_docs.proofs.Rising.{last-empty, last-snoc}
 use Rattle.lsp_docs.proofs.WaitingSteps.{none_row}
 use Rattle.lsp_docs.proofs.Words.{int_is, less_behind, no_some, uri_flip, uri_is, uri_same}
-use Rattle.lsp_types.specs.declared.change.SyncKind.{SyncKind}
-use Rattle.lsp_types.specs.declared.position.Encoding.{Encoding}
-use Rattle.lsp_text.specs.Edits.{Edit}
-use Rattle.lsp_docs.specs.Calls.{Bytes, Call, Text, changes, closes, opens, uri_of}
-use Rattle.lsp_docs.specs.Documents.{Terms, Version, held, is_at, versioned}
-use Rattle.lsp_docs.specs.Laws.{rises}
-use Rattle.lsp_docs.specs.Rules.{AreAccepted, call_rule, text_at}
-use Rattle.lsp_docs.specs.Snapshots.{has_number, kept, last_of, past}
+use Rattle.lsp_replay.specs.Common.{AreAccepted, Bytes, Call, call_rule, changes, closes, Edit}
+use Rattle.lsp_replay.specs.Common.{Encoding, has_number, held, is_at, opens, past, rises, SyncKind}
+use Rattle.lsp_replay.specs.Common.{Terms, uri_of, Version, versioned}
+use Rattle.lsp_docs.specs.Calls.{Text}
+use Rattle.lsp_docs.specs.Rules.{text_at}
+use Rattle.lsp_docs.specs.Snapshots.{kept, last_of}
 use Rattle.lsp_replay.specs.declared.heard.EventPlace.{EventPlace}
 use Rattle.lsp_trail.specs.Bases.{AddedBy, BegunBy, ChangesOne, HoldsAfter, HoldsFrom, HoldsOpen}
 use Rattle.lsp_trail.specs.Bases.{base_in, held_of, later, numbered, revisions, sent_since}

@@ -10,19 +10,17 @@ use Rattle.std.proofs.lemmas.Option.{none-some, same_Some}
 use Rattle.lsp_docs.proofs.Past.{nothing-past, past-rises-to, reached-number}
 use Rattle.lsp_docs.proofs.Rising.{last-empty, last-none}
 use Rattle.lsp_docs.proofs.Words.{int_is, less_behind, uri_is, uri_same}
-use Rattle.lsp_docs.specs.Calls.{Bytes, Call, Text, changes, closes, opens, saves, shows, uri_of}
-use Rattle.lsp_docs.specs.Documents.{Terms, Version, held, is_after, is_at}
-use Rattle.lsp_docs.specs.Laws.{rises}
-use Rattle.lsp_docs.specs.Rules.{AreAccepted, text_at}
-use Rattle.lsp_docs.specs.Snapshots.{has_number, is_ahead, kept, last_of, past}
+use Rattle.lsp_docs.specs.Calls.{Text}
+use Rattle.lsp_replay.specs.Common.{AreAccepted, Bytes, Call, changes, closes, Equal, has_number}
+use Rattle.lsp_replay.specs.Common.{held, is_after, is_at, Match, Missed, opens, past, rises, saves}
+use Rattle.lsp_replay.specs.Common.{shows, Terms, took_by, uri_of, Version, Waits}
+use Rattle.lsp_docs.specs.Rules.{text_at}
+use Rattle.lsp_docs.specs.Snapshots.{is_ahead, kept, last_of}
 use Rattle.lsp_docs.specs.Stored.{answer_of}
-use Rattle.lsp_docs.specs.declared.snapshot.Match.{Match}
-use Rattle.lsp_docs.specs.declared.snapshot.Match.TheVariants.{Equal, Waits, Missed}
 use Rattle.lsp_replay.specs.declared.heard.EventPlace.{EventPlace}
 use Rattle.lsp_trail.specs.Bases.{BegunBy, HoldsAfter, HoldsFrom, HoldsOpen, base_in, held_of}
 use Rattle.lsp_trail.specs.Bases.{later, numbered, sent_since}
 use Rattle.lsp_trail.specs.Bases as spec
-use Rattle.lsp_docs.specs.Taken.{took_by}
 use Rattle.lsp_trail.specs.History.{KeptCall, kept_call, step_of}
 use Rattle.lsp_trail.specs.Marking.{agreed, at_version, closes as closes_it, finds_equal}
 use Rattle.lsp_trail.specs.Marking.{found_at, marked, newer_of, rank_of, recent, standing}

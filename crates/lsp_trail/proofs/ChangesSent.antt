@@ -10,13 +10,11 @@ use Rattle.lsp_docs.proofs.HeldSteps.{held-snoc, next_held}
 use Rattle.lsp_docs.proofs.Past.{past-changed, past-same}
 use Rattle.lsp_docs.proofs.WaitingSteps.{change_parts}
 use Rattle.lsp_docs.proofs.Words.{uri_is}
-use Rattle.lsp_types.specs.declared.change.SyncKind.{SyncKind}
-use Rattle.lsp_types.specs.declared.position.Encoding.{Encoding}
-use Rattle.lsp_text.specs.Edits.{Edit, applied}
-use Rattle.lsp_docs.specs.Calls.{Bytes, Call, changes, closes, opens, saves, shows, uri_of}
-use Rattle.lsp_docs.specs.Documents.{Terms, Version, held, text_or, versioned}
-use Rattle.lsp_docs.specs.Snapshots.{past}
-use Rattle.lsp_docs.specs.Rules.{AreAccepted, AreAcceptedFrom, call_rule}
+use Rattle.lsp_replay.specs.Common.{applied, AreAccepted, Bytes, Call, call_rule, changes, closes}
+use Rattle.lsp_replay.specs.Common.{Edit, Encoding, held, opens, past, saves, shows, SyncKind}
+use Rattle.lsp_replay.specs.Common.{Terms, uri_of, Version, versioned}
+use Rattle.lsp_docs.specs.Documents.{text_or}
+use Rattle.lsp_docs.specs.Rules.{AreAcceptedFrom}
 use Rattle.lsp_trail.proofs.History.{since_last-push}
 use Rattle.lsp_trail.proofs.LaterChanges.{AreRising, AreWithin, itself, rises-snoc, within-more}
 use Rattle.lsp_trail.proofs.LaterChanges.{within-snoc}

@@ -15,11 +15,8 @@ use Rattle.std.proofs.lemmas.List.Elements.{filter_map-append}
 use Rattle.std.specs.Global.{Global}
 use Rattle.indexmap.proofs.ReorderLemmas.{map-reverse}
 use Rattle.lsp_docs.proofs.Others.{find-map}
-use Rattle.lsp_docs.specs.Documents.{Terms}
-use Rattle.lsp_verdict.specs.Event.{Event}
-use Rattle.lsp_verdict.specs.Offences.{kept_of, rule_at}
+use Rattle.lsp_replay.specs.Common.{Event, kept_of, place_of, rule_at, Terms}
 use Rattle.lsp_verdict.proofs.LookBackLemmas.{each_of-snoc}
-use Rattle.lsp_replay.specs.Lines.{place_of}
 use Rattle.lsp_replay.specs.declared.heard.EventPlace.{EventPlace}
 use Rattle.lsp_trail.specs.History.{HoldsLast, last_ones, last_that, since_last, with_room}
 use Rattle.lsp_trail.specs.History.{KeptCall, doing, each_kept, kept_as, OnDocument, is_change}

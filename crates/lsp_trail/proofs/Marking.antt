@@ -11,11 +11,8 @@ use Rattle.std.proofs.lemmas.List.Elements.{filter_map-append, filter-append}
 use Rattle.std.proofs.lemmas.List.Sums.{fold_push}
 use Rattle.std.specs.Global.{Global}
 use Rattle.std.specs.Str.{bytes_eq}
-use Rattle.lsp_docs.specs.State.{capped}
-use Rattle.lsp_docs.specs.declared.snapshot.Match.{Match}
-use Rattle.lsp_docs.specs.declared.snapshot.Match.TheVariants.{Equal, Waits, Missed}
+use Rattle.lsp_replay.specs.Common.{capped, each_of, Equal, Match, Missed, Waits}
 use Rattle.lsp_docs.proofs.Words.{capped-add, uri_is}
-use Rattle.lsp_verdict.specs.LookBack.{each_of}
 use Rattle.lsp_verdict.proofs.LookBackLemmas.{each_of-snoc}
 use Rattle.lsp_replay.specs.declared.heard.EventPlace.{EventPlace}
 use Rattle.lsp_uris.specs.Held.{held_by}

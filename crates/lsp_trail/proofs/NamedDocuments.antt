@@ -5,21 +5,18 @@ use Rattle.std.proofs.Common.{◌≡◌, ℕ, Bool, true, false, List, Option, S
 use Rattle.std.proofs.Common.{◌∙◌, subst}
 use Rattle.serde_json.specs.Data.{Data, null, boolean, number, string, array, object}
 use Rattle.serde_json.specs.Find.{as_str}
-use Rattle.lsp_rpc.specs.Ident.{Ident}
-use Rattle.lsp_rpc.specs.Message.{Message, request, notification, response, Reply, result, error}
-use Rattle.lsp_rpc.specs.Outline.{outline}
-use Rattle.lsp_rpc.specs.Params.{required}
+use Rattle.lsp_replay.specs.Common.{content, error, Event, Ident, Message, message, notification}
+use Rattle.lsp_replay.specs.Common.{outline, Reads, request, required, response, result, Sent, Side}
+use Rattle.lsp_replay.specs.Common.{snapshot}
+use Rattle.lsp_rpc.specs.Message.{Reply}
 use Rattle.lsp_rpc.specs.Reading as rpc
 use Rattle.lsp_rpc.specs.Shape.{as_id, unless_null}
-use Rattle.lsp_types.specs.declared.side.Side.{Side}
 use Rattle.lsp_types.specs.declared.side.Side.TheVariants.{Editor, Server}
 use Rattle.lsp_outline.proofs.Naming.{of_value, text_gives}
 use Rattle.lsp_outline.specs.Named.{document_in, named_in}
 use Rattle.lsp_outline.specs.Versions.{Versioned, versioned, versioned_at, versioned_in}
-use Rattle.lsp_session.specs.Sent.{Sent}
-use Rattle.lsp_verdict.specs.Event.{Event, fault, message, snapshot}
+use Rattle.lsp_verdict.specs.Event.{fault}
 use Rattle.lsp_verdict.specs.Given.{raw_view}
-use Rattle.lsp_verdict.specs.Placed.{Reads, content}
 use Rattle.lsp_verdict.specs.declared.raw.Raw as code_raw
 use Rattle.lsp_verdict.specs.declared.raw.Raw.TheVariants as raws
 use Rattle.lsp_trail.specs.Naming.{diagnoses, is_call, params_of, version_named, version_named_at}

@@ -7,34 +7,23 @@ use Rattle.std.proofs.Common.{arith, inr, refl, sym, ap, ◌∙◌, append-nil, 
 use Rattle.std.proofs.lemmas.Bool.Decides.{nat_tests}
 use Rattle.std.proofs.lemmas.List.Elements.{filter_map-append}
 use Rattle.lsp_docs.proofs.Entries.{is_some-mapped}
-use Rattle.lsp_docs.specs.Calls.{Call}
-use Rattle.lsp_docs.specs.Documents.{Terms}
-use Rattle.lsp_replay.specs.Lines.{place_of}
+use Rattle.lsp_replay.specs.Common.{act_at, answered_from, broken, Call, call_at, call_of, content}
+use Rattle.lsp_replay.specs.Common.{Encoding, encoding, Event, first_settled, id_view, Ident}
+use Rattle.lsp_replay.specs.Common.{is_done, is_empty, kept_of, Message, message, Nothing}
+use Rattle.lsp_replay.specs.Common.{open_initializes, outline, Phase, phase, place_of, Reads}
+use Rattle.lsp_replay.specs.Common.{rule_at, same_side, Sent, sent_in, sent_of, Settled, show, Side}
+use Rattle.lsp_replay.specs.Common.{snapshot, SyncKind, Terms, Utf16, without_params}
 use Rattle.lsp_replay.specs.declared.heard.EventPlace.{EventPlace}
-use Rattle.lsp_rpc.specs.Ident.{Ident, id_view}
-use Rattle.lsp_rpc.specs.Message.{Message}
-use Rattle.lsp_rpc.specs.Outline.{outline, without_params}
-use Rattle.lsp_rpc.specs.Params.{act_at}
 use Rattle.lsp_session.proofs.Steps.{option_or-none}
-use Rattle.lsp_session.specs.Handshake.{Settled, first_settled, is_done, is_empty, open_initializes}
-use Rattle.lsp_session.specs.Handshake.{phase, was_sent}
-use Rattle.lsp_session.specs.Sent.{Sent, answered_from, is_exit, is_initialized, is_shutdown}
-use Rattle.lsp_session.specs.Sent.{same_side}
+use Rattle.lsp_session.specs.Handshake.{was_sent}
+use Rattle.lsp_session.specs.Sent.{is_exit, is_initialized, is_shutdown}
 use Rattle.lsp_session.specs.Requests.{names}
-use Rattle.lsp_session.specs.Negotiation.{agreed_at, encoding, sync_kind}
+use Rattle.lsp_session.specs.Negotiation.{agreed_at, sync_kind}
 use Rattle.lsp_session.specs.State.{State, state_of}
-use Rattle.lsp_session.specs.declared.phase.Phase.{Phase}
 use Rattle.lsp_session.specs.declared.phase.Phase.TheVariants as phases
-use Rattle.lsp_types.specs.declared.change.SyncKind.{SyncKind}
-use Rattle.lsp_types.specs.declared.change.SyncKind.TheVariants.{Nothing}
-use Rattle.lsp_types.specs.declared.position.Encoding.{Encoding}
-use Rattle.lsp_types.specs.declared.position.Encoding.TheVariants.{Utf16}
-use Rattle.lsp_types.specs.declared.side.Side.{Side}
 use Rattle.lsp_types.specs.declared.side.Side.TheVariants.{Editor, Server}
-use Rattle.lsp_verdict.specs.Event.{Event, call_at, call_of, fault, message, sent_in, sent_of}
-use Rattle.lsp_verdict.specs.Event.{snapshot}
-use Rattle.lsp_verdict.specs.Offences.{kept_of, rule_at}
-use Rattle.lsp_verdict.specs.Placed.{Raw, Reads, broken, content, show}
+use Rattle.lsp_verdict.specs.Event.{fault}
+use Rattle.lsp_verdict.specs.Placed.{Raw}
 use Rattle.lsp_verdict.proofs.Offences.Quiet.{leaves_session}
 use Rattle.lsp_verdict.proofs.Offences.Steps.{kept-push}
 use Rattle.lsp_trail.specs.Asking.{asks, leads, most_replies, reply_of}

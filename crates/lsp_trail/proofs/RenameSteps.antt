@@ -9,14 +9,11 @@ use Rattle.std.proofs.Common.{codes, take, get_or, length}
 use Rattle.std.proofs.lemmas.List.{map-append, take_more}
 use Rattle.std.proofs.lemmas.List.Concat.{flat_map-append}
 use Rattle.serde_json.specs.Data.{Data}
-use Rattle.lsp_docs.specs.Calls.{Call, opens, changes, closes, saves, shows}
+use Rattle.lsp_replay.specs.Common.{both, Call, changes, closes, error, Message, notification}
+use Rattle.lsp_replay.specs.Common.{opens, outline, request, response, result, saves, Sent, shows}
+use Rattle.lsp_replay.specs.Common.{Side}
 use Rattle.lsp_docs.specs.declared.call.Took.{Took}
-use Rattle.lsp_rpc.specs.Message.{Message, request, notification, response, result, error}
-use Rattle.lsp_rpc.specs.Outline.{outline}
-use Rattle.lsp_rpc.specs.Params.{both}
 use Rattle.lsp_rpc.specs.Reading.{Reads}
-use Rattle.lsp_session.specs.Sent.{Sent}
-use Rattle.lsp_types.specs.declared.side.Side.{Side}
 use Rattle.lsp_types.specs.declared.side.Side.TheVariants.{Editor, Server}
 use Rattle.lsp_verdict.proofs.LookBackLemmas.{first_of-snoc}
 use Rattle.lsp_replay.specs.declared.heard.EventPlace.{EventPlace}

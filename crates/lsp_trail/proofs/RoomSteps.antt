@@ -4,8 +4,7 @@ use Rattle.std.proofs.Common.{◌≡◌, ◌⊎◌, ◌≤◌, ◌+◌, ℕ, Boo
 use Rattle.std.proofs.Common.{refl, sym, ap, ◌∙◌, arith, append_assoc, inl, inr, subst}
 use Rattle.std.proofs.lemmas.List.{map-append}
 use Rattle.std.proofs.lemmas.List.Sums.{sum_by-cons}
-use Rattle.lsp_text.specs.Changes.{edits_of}
-use Rattle.lsp_text.specs.Edits.{Edit}
+use Rattle.lsp_replay.specs.Common.{Edit, edits_of}
 use Rattle.lsp_trail.specs.Bases.{AddsTo, DropsFirst, HoldsMore, LeavesRoom, LetsGo}
 use Rattle.lsp_trail.specs.Bases.{later, sent_in, text_in}
 use Rattle.lsp_trail.specs.SentEdits.{SentEdits, are_few}

@@ -3,15 +3,13 @@ use Rattle.std.specs.Prelude.{is_some, option_map, if◌then◌else◌}
 use Rattle.std.specs.List.{cons_option}
 use Rattle.std.specs.Option.{option_or}
 use Rattle.std.proofs.Common.{◌≡◌, ℕ, Bool, List, [], ◌∷◌, ◌++◌, Option, Some, None, refl, ap, ◌∙◌}
-use Rattle.lsp_docs.specs.Calls.{Call, opens, changes, closes, saves, shows}
-use Rattle.lsp_docs.specs.Documents.{Terms, Version, held, revised}
+use Rattle.lsp_replay.specs.Common.{Call, call_at, calls, changes, closes, Event, Heard}
+use Rattle.lsp_replay.specs.Common.{heard_events, held, kept_before, kept_of, opens, rule_of, saves}
+use Rattle.lsp_replay.specs.Common.{shows, Terms, Version}
+use Rattle.lsp_docs.specs.Documents.{revised}
 use Rattle.lsp_docs.proofs.HeldSteps.{held-snoc}
-use Rattle.lsp_verdict.specs.Event.{Event, call_at, calls}
-use Rattle.lsp_verdict.specs.Heard.{Heard, heard_events}
-use Rattle.lsp_verdict.specs.Offences.{kept_of}
 use Rattle.lsp_verdict.proofs.LookBackLemmas.{each_of-snoc}
 use Rattle.lsp_verdict.proofs.Offences.Steps.{kept-push}
-use Rattle.lsp_replay.specs.Telling.{kept_before, rule_of}
 use Rattle.lsp_replay.proofs.Seeing.{events-push}
 use Rattle.lsp_trail.specs.Naming.{if_unopened}
 use Rattle.lsp_trail.specs.Saves.{unopened_save}

@@ -9,33 +9,25 @@ use Rattle.std.proofs.lemmas.List.{map-append}
 use Rattle.std.proofs.lemmas.List.Elements.{filter_map-append}
 use Rattle.std.proofs.lemmas.Option.{same_Some}
 use Rattle.serde_json.specs.Data.{Data}
-use Rattle.lsp_rpc.specs.Act.{Offer}
-use Rattle.lsp_rpc.specs.Message.{Message, request, notification, response, result, error}
-use Rattle.lsp_rpc.specs.Outline.{outline, without_params}
-use Rattle.lsp_rpc.specs.Ident.{Ident, id_view}
+use Rattle.lsp_replay.specs.Common.{answered_from, call_at, call_of, each_from, each_of, encoding}
+use Rattle.lsp_replay.specs.Common.{error, Event, first_settled, id_view, Ident, is_done, kept_of}
+use Rattle.lsp_replay.specs.Common.{last_or, Message, message, Nothing, notification, Offer}
+use Rattle.lsp_replay.specs.Common.{open_initializes, outline, Phase, phase, place_of, request}
+use Rattle.lsp_replay.specs.Common.{response, result, rule_at, Sent, sent_in, sent_of, Settled}
+use Rattle.lsp_replay.specs.Common.{Side, Terms, Utf16, without_params}
 use Rattle.lsp_rpc.specs.Reading.{Reads}
-use Rattle.lsp_session.specs.Handshake.{Settled, first_settled, is_done, offer_to, open_initializes}
-use Rattle.lsp_session.specs.Handshake.{phase, result_of, settled_among, settled_at, settled_by}
-use Rattle.lsp_session.specs.Negotiation.{encoding, sync_kind}
+use Rattle.lsp_session.specs.Handshake.{offer_to}
+use Rattle.lsp_session.specs.Handshake.{result_of, settled_among, settled_at, settled_by}
+use Rattle.lsp_session.specs.Negotiation.{sync_kind}
 use Rattle.lsp_session.specs.OpenInitialize.{Initialize}
-use Rattle.lsp_session.specs.Sent.{Sent, answered_from}
 use Rattle.lsp_session.proofs.Steps.{first_settled_from-push}
-use Rattle.lsp_session.specs.declared.phase.Phase.{Phase}
-use Rattle.lsp_types.specs.declared.change.SyncKind.TheVariants.{Nothing}
-use Rattle.lsp_types.specs.declared.position.Encoding.TheVariants.{Utf16}
-use Rattle.lsp_types.specs.declared.side.Side.{Side}
 use Rattle.lsp_types.specs.declared.side.Side.TheVariants.{Editor, Server}
-use Rattle.lsp_verdict.specs.LookBack.{each_of, each_from}
-use Rattle.lsp_verdict.specs.Offences.{last_or, kept_of, rule_at}
 use Rattle.lsp_verdict.proofs.LookBackLemmas.{each_of-snoc}
 use Rattle.lsp_verdict.proofs.Offences.Steps.{last_behind}
-use Rattle.lsp_verdict.specs.Event.{Event, call_at, call_of, message, sent_in, sent_of}
 use Rattle.lsp_verdict.specs.Laws.{kept_at}
 use Rattle.lsp_verdict.proofs.Offences.Offending.{kept_are_others}
 use Rattle.lsp_replay.specs.declared.heard.EventPlace.{EventPlace}
 use Rattle.lsp_replay.specs.Standing.{HasValue}
-use Rattle.lsp_replay.specs.Lines.{place_of}
-use Rattle.lsp_docs.specs.Documents.{Terms}
 use Rattle.lsp_trail.specs.Asking.{Numbered, numbered_as, sents, Reply, asks, asks_by, leads}
 use Rattle.lsp_trail.specs.Asking.{leads_by, message_kept, most_replies, numbered, replies}
 use Rattle.lsp_trail.specs.Asking.{reply_by, reply_of}

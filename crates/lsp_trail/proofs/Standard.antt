@@ -6,16 +6,11 @@ use Rattle.std.proofs.Common.{◌≡◌, ◌⊎◌, ◌∙◌, ℕ, Bool, true, 
 use Rattle.std.proofs.Common.{inl, inr, refl, sym, ap, subst}
 use Rattle.std.proofs.lemmas.Slice.Eq.{bytes_eq-Decides}
 use Rattle.serde_json.specs.Data.{Data}
-use Rattle.lsp_docs.specs.Calls.{Call}
-use Rattle.lsp_rpc.specs.Act.{Act, cancel, early, exit, initialized, other, progress}
-use Rattle.lsp_rpc.specs.Ident.{Ident}
-use Rattle.lsp_rpc.specs.Message.{Message, notification}
-use Rattle.lsp_rpc.specs.Params.{Row, act_at, act_by, cancel_at, notifications, progress_at}
-use Rattle.lsp_types.specs.declared.change.SyncKind.{SyncKind}
-use Rattle.lsp_types.specs.declared.position.Encoding.{Encoding}
-use Rattle.lsp_types.specs.declared.side.Side.{Side}
+use Rattle.lsp_replay.specs.Common.{Act, act_at, Call, call_of, Encoding, Ident, Message}
+use Rattle.lsp_replay.specs.Common.{notification, other, Side, SyncKind}
+use Rattle.lsp_rpc.specs.Act.{cancel, early, exit, initialized, progress}
+use Rattle.lsp_rpc.specs.Params.{Row, act_by, cancel_at, notifications, progress_at}
 use Rattle.lsp_types.specs.declared.side.Side.TheVariants.{Editor, Server}
-use Rattle.lsp_verdict.specs.Event.{call_of}
 use Rattle.lsp_verdict.proofs.Offences.Quiet.{IsNotified, IsPlain, is_notified}
 use Rattle.lsp_trail.specs.SessionNotes.{notification_misuse}
 use Rattle.lsp_trail.specs.StandardMethods.{standard, use_among, use_of}

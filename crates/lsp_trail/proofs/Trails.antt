@@ -5,32 +5,23 @@ use Rattle.std.specs.List.{cons_option, last_or}
 use Rattle.std.specs.Option.{option_or}
 use Rattle.std.proofs.Common.{◌≡◌, ℕ, List, [], ◌∷◌, ◌++◌, Option, Some, None, refl, sym, ap, ◌∙◌}
 use Rattle.std.proofs.Common.{append-nil, map, subst}
-use Rattle.lsp_docs.specs.Calls.{Call, uri_of}
-use Rattle.lsp_docs.specs.Documents.{Terms}
-use Rattle.lsp_docs.specs.Rules.{AreAccepted}
+use Rattle.lsp_replay.specs.Common.{AreAccepted, Call, call_at, calls, content, Counts, Event}
+use Rattle.lsp_replay.specs.Common.{HasFate, Heard, heard_events, is_done, kept_before, kept_of}
+use Rattle.lsp_replay.specs.Common.{message, message_view, phase, place_of, Reads, rule_at, rule_of}
+use Rattle.lsp_replay.specs.Common.{Sent, sent_in, Side, snapshot, Spoken, Stood, Terms, took_by}
+use Rattle.lsp_replay.specs.Common.{uri_of}
 use Rattle.lsp_docs.specs.State as docs
-use Rattle.lsp_docs.specs.Taken.{took_by}
 use Rattle.lsp_docs.specs.declared.call.Took.{Took}
-use Rattle.lsp_replay.specs.Lines.{place_of}
-use Rattle.lsp_replay.specs.Telling.{HasFate, IsSpoken, Stood, kept_before, rule_of, took_of}
+use Rattle.lsp_replay.specs.Telling.{IsSpoken, took_of}
 use Rattle.lsp_replay.specs.declared.heard.EventPlace.{EventPlace}
 use Rattle.lsp_replay.specs.declared.seen.Fate.{Fate}
 use Rattle.lsp_replay.specs.declared.seen.Fate.TheVariants as fates
 use Rattle.lsp_replay.proofs.Seeing.{events-push}
-use Rattle.lsp_rpc.specs.View.{message_view}
-use Rattle.lsp_rpc.specs.declared.act.Spoken.{Spoken}
-use Rattle.lsp_session.specs.Handshake.{is_done, phase}
-use Rattle.lsp_session.specs.Sent.{Sent}
 use Rattle.lsp_session.specs.State as session
-use Rattle.lsp_types.specs.declared.side.Side.{Side}
-use Rattle.lsp_verdict.specs.Event.{call_at, calls, Event, fault, message, sent_in, snapshot}
+use Rattle.lsp_verdict.specs.Event.{fault}
 use Rattle.lsp_verdict.specs.Given.{raw_view}
-use Rattle.lsp_verdict.specs.Heard.{Heard, heard_events}
-use Rattle.lsp_verdict.specs.Offences.{kept_of, rule_at}
-use Rattle.lsp_verdict.specs.Placed.{Reads, content}
 use Rattle.lsp_verdict.proofs.LookBackLemmas.{each_of-snoc}
 use Rattle.lsp_verdict.proofs.Offences.Steps.{kept-push, kept-refused}
-use Rattle.lsp_verdict.specs.declared.counts.Counts.{Counts}
 use Rattle.lsp_verdict.specs.declared.raw.Raw as lent
 use Rattle.lsp_verdict.specs.declared.raw.Raw.TheVariants as lents
 use Rattle.lsp_trail.specs.Bases.{KeepsBy}

@@ -2,19 +2,12 @@
 use Rattle.std.specs.Prelude.{ℕ, List, [], ◌∷◌, ◌++◌, length, map, Bool, true, ◌==◌, nat_le}
 use Rattle.std.specs.Prelude.{if◌then◌else◌, Option, Some, None, option_map}
 use Rattle.std.specs.List.{filter_map}
-use Rattle.lsp_docs.specs.Documents.{Terms}
-use Rattle.lsp_rpc.specs.Ident.{Ident, number, text, same_id}
-use Rattle.lsp_rpc.specs.Message.{Message}
-use Rattle.lsp_session.specs.Handshake.{phase}
+use Rattle.lsp_replay.specs.Common.{answered_from, asked_from, each_of, Event, Ident, last_or}
+use Rattle.lsp_replay.specs.Common.{Message, Phase, phase, same_id, Sent, sent_of, Side, Terms}
+use Rattle.lsp_rpc.specs.Ident.{number, text}
 use Rattle.lsp_session.specs.Requests.{names}
-use Rattle.lsp_session.specs.Sent.{Sent, answered_from}
-use Rattle.lsp_session.specs.declared.phase.Phase.{Phase}
 use Rattle.lsp_session.specs.declared.phase.Phase.TheVariants.{Fresh, Waiting, Answered, Ready}
 use Rattle.lsp_session.specs.declared.phase.Phase.TheVariants.{Stopping, Exited}
-use Rattle.lsp_types.specs.declared.side.Side.{Side}
-use Rattle.lsp_verdict.specs.Event.{Event, sent_of}
-use Rattle.lsp_verdict.specs.LookBack.{each_of}
-use Rattle.lsp_verdict.specs.Offences.{asked_from, last_or}
 use Rattle.lsp_trail.specs.History.{each_kept, last_ones, last_that}
 use Rattle.lsp_replay.specs.declared.heard.EventPlace.{EventPlace}
 

@@ -6,17 +6,14 @@ use Rattle.std.specs.Prelude.{MatchBool, MatchOption, String}
 use Rattle.std.specs.Global.{Global}
 use Rattle.std.specs.List.{filter_map, find}
 use Rattle.std.specs.Str.{bytes_eq}
-use Rattle.lsp_lined.specs.Counted.{Counted}
-use Rattle.lsp_text.specs.Edits.{Edit}
-use Rattle.lsp_docs.specs.Calls.{Bytes, Call, Text, changes, uri_of}
-use Rattle.lsp_docs.specs.Documents.{Terms, Version, held, is_at, opening}
+use Rattle.lsp_replay.specs.Common.{Bytes, Call, calls, changes, Counted, Edit, Equal, Event}
+use Rattle.lsp_replay.specs.Common.{has_number, held, is_at, kept_of, Match, past, Terms, uri_of}
+use Rattle.lsp_replay.specs.Common.{Version}
+use Rattle.lsp_docs.specs.Calls.{Text}
+use Rattle.lsp_docs.specs.Documents.{opening}
 use Rattle.lsp_docs.specs.Rules.{text_at}
-use Rattle.lsp_docs.specs.Snapshots.{has_number, kept, past}
-use Rattle.lsp_docs.specs.declared.snapshot.Match.{Match}
-use Rattle.lsp_docs.specs.declared.snapshot.Match.TheVariants.{Equal}
+use Rattle.lsp_docs.specs.Snapshots.{kept}
 use Rattle.lsp_uris.specs.Held.{held_by}
-use Rattle.lsp_verdict.specs.Event.{calls, Event}
-use Rattle.lsp_verdict.specs.Offences.{kept_of}
 use Rattle.lsp_trail.specs.History.{since_last}
 use Rattle.lsp_trail.specs.Marking.{agreed, steps}
 use Rattle.lsp_trail.specs.SentEdits.{SentEdits, are_few, edits_size, most_size, sent_edits}

@@ -1,8 +1,6 @@
 -- An event that offends, with those before it.
 use Rattle.std.specs.Prelude.{ℕ, List, Option, option_map}
-use Rattle.lsp_docs.specs.Documents.{Terms}
-use Rattle.lsp_verdict.specs.Heard.{Heard, notes_of}
-use Rattle.lsp_verdict.specs.Offences.{events_of, rule_at}
+use Rattle.lsp_replay.specs.Common.{events_of, Heard, notes_of, rule_at, Terms}
 
 -- after these events this one offends by this rule
 pub record Breach : Type 0 where

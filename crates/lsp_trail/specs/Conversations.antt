@@ -2,16 +2,9 @@
 use Rattle.std.specs.Prelude.{◌≡◌, Bool, List, ◌++◌, map, Option, Some, None, if◌then◌else◌}
 use Rattle.std.specs.Prelude.{unwrap_or, option_to_list}
 use Rattle.std.specs.Option.{option_or}
-use Rattle.lsp_docs.specs.Documents.{Terms}
-use Rattle.lsp_rpc.specs.Ident.{Ident, id_view, same_id}
-use Rattle.lsp_rpc.specs.Message.{Message}
-use Rattle.lsp_rpc.specs.declared.message.Id.{Id}
-use Rattle.lsp_session.specs.Handshake.{phase}
-use Rattle.lsp_session.specs.Sent.{answered_from}
-use Rattle.lsp_session.specs.declared.phase.Phase.{Phase}
-use Rattle.lsp_types.specs.declared.side.Side.{Side}
+use Rattle.lsp_replay.specs.Common.{answered_from, Event, Id, id_view, Ident, Message, Phase, phase}
+use Rattle.lsp_replay.specs.Common.{same_id, Side, Terms}
 use Rattle.lsp_types.specs.declared.side.Side.TheVariants.{Editor, Server}
-use Rattle.lsp_verdict.specs.Event.{Event}
 use Rattle.lsp_uris.specs.Held.{asked_in}
 use Rattle.lsp_trail.specs.Asking.{Numbered, Reply, asks, asked, replies, reply_of}
 use Rattle.lsp_trail.specs.Asking.{most_replies, leads, numbered, sents, since}

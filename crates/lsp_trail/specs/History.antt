@@ -3,15 +3,10 @@ use Rattle.std.specs.Prelude.{◌≡◌, ◌++◌, ℕ, ◌-◌, Bool, List, Opt
 use Rattle.std.specs.Prelude.{reverse, if◌then◌else◌, Some, None, true, false, is_some}
 use Rattle.std.specs.Prelude.{option_and_then, option_map}
 use Rattle.std.specs.List.{find, take_while, filter_map}
-use Rattle.lsp_docs.specs.Calls.{Call, opens, changes, closes, shows, uri_of}
-use Rattle.lsp_docs.specs.Documents.{Terms}
-use Rattle.lsp_docs.specs.Taken.{took_by}
+use Rattle.lsp_replay.specs.Common.{Call, call_at, calls, changes, closes, each_of, Event, kept_of}
+use Rattle.lsp_replay.specs.Common.{opens, place_of, rule_at, shows, Terms, took_by, uri_of}
 use Rattle.lsp_docs.specs.declared.call.Took.{Took}
 use Rattle.lsp_docs.specs.declared.call.Took.TheVariants as took
-use Rattle.lsp_verdict.specs.Event.{call_at, calls, Event}
-use Rattle.lsp_verdict.specs.LookBack.{each_of}
-use Rattle.lsp_verdict.specs.Offences.{kept_of, rule_at}
-use Rattle.lsp_replay.specs.Lines.{place_of}
 use Rattle.lsp_replay.specs.declared.heard.EventPlace.{EventPlace}
 use Rattle.lsp_trail.specs.declared.step.Step.{Step}
 use Rattle.lsp_trail.specs.declared.step.Step.TheVariants.{Reaches, Closes, Shows}

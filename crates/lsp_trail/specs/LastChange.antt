@@ -3,16 +3,10 @@ use Rattle.std.specs.Prelude.{◌≡◌, ◌&&◌, ℕ, List, [], ◌∷◌, ◌
 use Rattle.std.specs.Prelude.{None, option_and_then, option_map, if◌then◌else◌, nat_lt, not}
 use Rattle.std.specs.List.{last_or}
 use Rattle.std.specs.Str.{bytes_eq}
-use Rattle.lsp_docs.specs.Calls.{Call, changes}
-use Rattle.lsp_docs.specs.Documents.{Terms}
-use Rattle.lsp_text.specs.Changes.{edits_of}
-use Rattle.lsp_text.specs.Edits.{Edit}
-use Rattle.lsp_types.specs.declared.position.Position.{Position}
-use Rattle.lsp_types.specs.declared.position.Span.{Span}
-use Rattle.lsp_types.specs.declared.change.Change.{Change}
+use Rattle.lsp_replay.specs.Common.{Call, call_at, Change, changes, Edit, edits_of, Event, Position}
+use Rattle.lsp_replay.specs.Common.{Span, Terms}
 use Rattle.std.specs.declared.vec.Vec.{Vec}
 use Rattle.std.specs.Global.{Global}
-use Rattle.lsp_verdict.specs.Event.{call_at, Event}
 use Rattle.lsp_replay.specs.declared.heard.EventPlace.{EventPlace}
 use Rattle.lsp_trail.specs.History.{each_kept}
 use Rattle.lsp_trail.specs.SentEdits.{edits_size}

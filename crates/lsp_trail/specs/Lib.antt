@@ -15,3 +15,4 @@ pub mod Bases
 pub mod Uncompared
 pub mod Trails
 pub mod Breaches
+pub mod Common

@@ -10,11 +10,7 @@ use Rattle.std.specs.Global.{Global}
 use Rattle.std.specs.Map.{lookup}
 use Rattle.std.specs.Option.{option_or}
 use Rattle.std.specs.declared.vec.Vec.{Vec}
-use Rattle.lsp_docs.specs.State.{capped}
-use Rattle.lsp_docs.specs.Documents.{Terms}
-use Rattle.lsp_docs.specs.declared.snapshot.Match.TheVariants.{Equal, Waits, Missed}
-use Rattle.lsp_verdict.specs.Event.{Event}
-use Rattle.lsp_verdict.specs.LookBack.{each_of}
+use Rattle.lsp_replay.specs.Common.{capped, each_of, Equal, Event, Missed, Terms, Waits}
 use Rattle.lsp_replay.specs.declared.heard.EventPlace.{EventPlace}
 use Rattle.lsp_uris.specs.Held.{held_by}
 use Rattle.lsp_trail.specs.History.{KeptCall, is_closing, kept_calls, last_ones, since_last}

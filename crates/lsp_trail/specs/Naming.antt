@@ -3,15 +3,11 @@ use Rattle.std.specs.Prelude.{ℕ, List, Bool, true, false, Option, Some, None, 
 use Rattle.std.specs.Prelude.{codes, is_some, option_and_then, option_map}
 use Rattle.std.specs.Str.{bytes_eq}
 use Rattle.serde_json.specs.Data.{Data}
-use Rattle.lsp_docs.specs.Calls.{Call}
-use Rattle.lsp_docs.specs.Documents.{Terms, held}
-use Rattle.lsp_rpc.specs.Message.{Message, request, notification, response}
+use Rattle.lsp_replay.specs.Common.{Call, Event, held, Message, notification, request, response}
+use Rattle.lsp_replay.specs.Common.{Sent, sent_of, Side, Terms}
 use Rattle.lsp_outline.specs.Named.{document_in}
 use Rattle.lsp_outline.specs.Versions.{Versioned, versioned, versioned_at}
-use Rattle.lsp_session.specs.Sent.{Sent}
-use Rattle.lsp_types.specs.declared.side.Side.{Side}
 use Rattle.lsp_types.specs.declared.side.Side.TheVariants.{Editor, Server}
-use Rattle.lsp_verdict.specs.Event.{Event, sent_of}
 
 -- ---- whether a message may name one
 

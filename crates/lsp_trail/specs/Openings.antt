@@ -5,8 +5,7 @@ use Rattle.std.specs.Prelude.{string_bytes, String}
 use Rattle.std.specs.Global.{Global}
 use Rattle.std.specs.List.{fold, list_any}
 use Rattle.std.specs.Str.{bytes_eq}
-use Rattle.lsp_docs.specs.Documents.{Terms}
-use Rattle.lsp_verdict.specs.Event.{Event}
+use Rattle.lsp_replay.specs.Common.{Event, Terms}
 use Rattle.lsp_trail.specs.History.{KeptCall, OnDocument, doing, is_change, is_closing}
 use Rattle.lsp_trail.specs.History.{is_opening, is_showing, kept_calls, last_ones, last_that}
 use Rattle.lsp_trail.specs.declared.openings.Closing.{Closing}

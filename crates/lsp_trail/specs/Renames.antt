@@ -7,15 +7,11 @@ use Rattle.std.specs.Option.{option_or}
 use Rattle.std.specs.Str.{bytes_eq}
 use Rattle.serde_json.specs.Data.{Data, Items}
 use Rattle.serde_json.specs.Find.{as_array, as_str}
-use Rattle.lsp_docs.specs.Calls.{Call, opens, changes, uri_of}
-use Rattle.lsp_rpc.specs.Message.{Message, request, notification, response}
-use Rattle.lsp_rpc.specs.Outline.{outline}
-use Rattle.lsp_rpc.specs.Params.{all_of, both, required}
+use Rattle.lsp_replay.specs.Common.{all_of, both, Call, call_at, changes, first_of, Message}
+use Rattle.lsp_replay.specs.Common.{message, notification, opens, outline, request, required}
+use Rattle.lsp_replay.specs.Common.{response, Side, uri_of}
 use Rattle.lsp_rpc.specs.Reading.{Reads}
-use Rattle.lsp_types.specs.declared.side.Side.{Side}
 use Rattle.lsp_types.specs.declared.side.Side.TheVariants.{Editor, Server}
-use Rattle.lsp_verdict.specs.Event.{call_at, message}
-use Rattle.lsp_verdict.specs.LookBack.{first_of}
 use Rattle.lsp_replay.specs.declared.heard.EventPlace.{EventPlace}
 use Rattle.lsp_trail.specs.Asking.{Numbered, sents}
 use Rattle.lsp_trail.specs.History.{OnDocument, on_document, last_ones, last_that}

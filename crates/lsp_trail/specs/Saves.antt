@@ -1,8 +1,6 @@
 -- Which messages saved a document that was not open.
 use Rattle.std.specs.Prelude.{◌≡◌, ℕ, List, Option, None, option_and_then, option_map}
-use Rattle.lsp_docs.specs.Calls.{Call, saves}
-use Rattle.lsp_docs.specs.Documents.{Terms}
-use Rattle.lsp_verdict.specs.Event.{call_at, calls, Event}
+use Rattle.lsp_replay.specs.Common.{Call, call_at, calls, Event, saves, Terms}
 use Rattle.lsp_replay.specs.declared.heard.EventPlace.{EventPlace}
 use Rattle.lsp_trail.specs.History.{OnDocument, each_kept, last_ones, on_document}
 use Rattle.lsp_trail.specs.Naming.{if_unopened}

@@ -1,9 +1,7 @@
 -- The changes of messages: how many are looked at, and how large they are.
 use Rattle.std.specs.Prelude.{ℕ, ℤ, ◌+◌, ◌&&◌, nat_lt, not, Bool, List, length, map}
 use Rattle.std.specs.List.{sum_by}
-use Rattle.lsp_text.specs.Changes.{edits_of}
-use Rattle.lsp_text.specs.Edits.{Edit}
-use Rattle.lsp_docs.specs.Calls.{byte_len}
+use Rattle.lsp_replay.specs.Common.{byte_len, Edit, edits_of}
 use Rattle.lsp_trail.specs.declared.base.SentChanges.{SentChanges}
 
 -- those of a message, and the version that it set

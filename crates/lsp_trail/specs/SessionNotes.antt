@@ -4,19 +4,14 @@ use Rattle.std.specs.Prelude.{option_and_then, option_map, string_bytes, ◌≡�
 use Rattle.std.specs.Prelude.{codes, unwrap_or}
 use Rattle.std.specs.Str.{bytes_eq}
 use Rattle.std.specs.List.{filter_map, list_any}
-use Rattle.lsp_rpc.specs.Message.{Message, request, notification, response}
-use Rattle.lsp_rpc.specs.Params.{required}
-use Rattle.lsp_types.specs.declared.side.Side.{Side}
+use Rattle.lsp_replay.specs.Common.{each_of, first_settled, is_done, last_or, Message, notification}
+use Rattle.lsp_replay.specs.Common.{Phase, phase, request, required, response, Sent, Side}
 use Rattle.lsp_types.specs.declared.side.Side.TheVariants.{Editor, Server}
 use Rattle.lsp_replay.specs.declared.heard.EventPlace.{EventPlace}
 use Rattle.serde_json.specs.Data.{Data}
 use Rattle.serde_json.specs.Find.{as_str}
-use Rattle.lsp_session.specs.Handshake.{first_settled, is_done, phase, result_of}
-use Rattle.lsp_session.specs.Sent.{Sent}
-use Rattle.lsp_session.specs.declared.phase.Phase.{Phase}
+use Rattle.lsp_session.specs.Handshake.{result_of}
 use Rattle.lsp_session.specs.declared.phase.Phase.TheVariants.{Stopping, Exited}
-use Rattle.lsp_verdict.specs.LookBack.{each_of}
-use Rattle.lsp_verdict.specs.Offences.{last_or}
 use Rattle.lsp_trail.specs.declared.standard_methods.MethodUse.{MethodUse}
 use Rattle.lsp_trail.specs.Asking.{Numbered, same_phase, sents}
 use Rattle.lsp_trail.specs.StandardMethods.{use_of}

@@ -2,11 +2,8 @@
 use Rattle.std.specs.Prelude.{ℕ, List, Option, Some, nat_lt, Bool, not, None, ◌*◌, length, false}
 use Rattle.std.specs.Prelude.{◌&&◌, ◌==◌, is_some}
 use Rattle.std.specs.Str.{bytes_eq}
-use Rattle.lsp_docs.specs.Documents.{held, Terms}
+use Rattle.lsp_replay.specs.Common.{calls, Event, folded, held, kept_of, Terms}
 use Rattle.lsp_replay.specs.declared.heard.EventPlace.{EventPlace}
-use Rattle.lsp_verdict.specs.Event.{calls, Event}
-use Rattle.lsp_verdict.specs.Offences.{kept_of}
-use Rattle.lsp_verdict.specs.Spelling.{folded}
 use Rattle.lsp_trail.specs.History.{last_ones, OnDocument}
 use Rattle.lsp_trail.specs.Openings.{last_on, most_openings, openings}
 

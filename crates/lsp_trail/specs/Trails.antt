@@ -1,10 +1,8 @@
 -- What is kept of the events of a session on the way.
 use Rattle.std.specs.Prelude.{[], ◌++◌, List, Option, unwrap_or}
 use Rattle.std.specs.List.{cons_option}
-use Rattle.lsp_docs.specs.Documents.{Terms}
-use Rattle.lsp_verdict.specs.Event.{Event, sent_in}
-use Rattle.lsp_verdict.specs.Offences.{kept_of}
-use Rattle.lsp_replay.specs.Standing.{Holds}
+use Rattle.lsp_replay.specs.Common.{Encoding, encoding, Event, Holds, kept_of, sent_in, Terms}
+use Rattle.lsp_replay.specs.Common.{Utf16}
 use Rattle.lsp_trail.specs.Bases.{AreBases}
 use Rattle.lsp_trail.specs.History.{KeptCall}
 use Rattle.lsp_trail.specs.Marking.{AreMarks, MarkedBy}
@@ -17,9 +15,6 @@ use Rattle.lsp_trail.specs.declared.marks.Marks.{Marks}
 use Rattle.lsp_trail.specs.declared.openings.Openings.{Openings}
 use Rattle.lsp_trail.specs.declared.trail.Trail.{Trail}
 use Rattle.lsp_trail.specs.declared.trail.Past.{Past}
-use Rattle.lsp_types.specs.declared.position.Encoding.{Encoding}
-use Rattle.lsp_types.specs.declared.position.Encoding.TheVariants.{Utf16}
-use Rattle.lsp_session.specs.Negotiation.{encoding}
 
 -- ---- what is kept
 

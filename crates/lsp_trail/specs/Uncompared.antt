@@ -3,16 +3,13 @@ use Rattle.std.specs.Prelude.{◌≡◌, ℤ, int_lt, Bool, List, Option, Some, 
 use Rattle.std.specs.Prelude.{option_and_then, string_bytes}
 use Rattle.std.specs.Global.{Global}
 use Rattle.std.specs.Str.{bytes_eq, chars}
-use Rattle.lsp_docs.specs.Calls.{Bytes, Call, Text, closes, shows}
-use Rattle.lsp_docs.specs.Documents.{Terms, Version, versioned}
-use Rattle.lsp_docs.specs.Taken.{took_by}
+use Rattle.lsp_docs.specs.Calls.{Text}
+use Rattle.lsp_replay.specs.Common.{Bytes, Call, call_at, calls, closes, Equal, Event, Match, shows}
+use Rattle.lsp_replay.specs.Common.{Terms, took_by, Version, versioned}
 use Rattle.lsp_docs.specs.declared.call.Took.{Took}
 use Rattle.lsp_docs.specs.declared.call.Took.TheVariants as took
-use Rattle.lsp_docs.specs.declared.snapshot.Match.{Match}
-use Rattle.lsp_docs.specs.declared.snapshot.Match.TheVariants.{Equal}
 use Rattle.lsp_replay.specs.declared.heard.EventPlace.{EventPlace}
 use Rattle.lsp_uris.specs.Held.{held_by}
-use Rattle.lsp_verdict.specs.Event.{call_at, calls, Event}
 use Rattle.lsp_trail.specs.History.{each_kept, last_that}
 use Rattle.lsp_trail.specs.declared.uncompared.ShownText as code
 

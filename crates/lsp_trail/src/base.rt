@@ -1,8 +1,7 @@
 //! A text from which a document may have drifted, and the changes since.
 ghost use Rattle.std.specs.Prelude.{◌≡◌, ◌+◌, ◌<◌, ◌≤◌, MatchOption, filter, int_lt};
 ghost use Rattle.std.specs.Str.{chars};
-ghost use Rattle.lsp_docs.specs.Calls.{byte_len};
-ghost use Rattle.lsp_text.specs.Changes.{edit_of, edits_of};
+ghost use Rattle.lsp_replay.specs.Common.{byte_len, edit_of, edits_of};
 ghost use Rattle.lsp_trail.specs.SentEdits.{edits_size, most_size, per_change, sents_view};
 ghost use Rattle.lsp_trail.specs.SentEdits.{total_size, weight};
 

@@ -1,11 +1,9 @@
 //! The texts from which documents may have drifted, and the changes since, by URI.
 ghost use Rattle.std.specs.Prelude.{◌≡◌, ◌||◌, [], List, None, Some, OnOk, IfNone, IfOk, IfSome};
 ghost use Rattle.std.specs.Prelude.{option_map};
-ghost use Rattle.lsp_docs.specs.Calls.{Call as SpecCall, uri_of};
+ghost use Rattle.lsp_docs.specs.Calls.{Call as SpecCall};
 ghost use Rattle.lsp_docs.specs.Snapshots.{kept};
-ghost use Rattle.lsp_docs.specs.State.{Stands};
-ghost use Rattle.lsp_docs.specs.Taken.{call_view};
-ghost use Rattle.lsp_text.specs.Changes.{edits_of};
+ghost use Rattle.lsp_replay.specs.Common.{call_view, edits_of, Stands, uri_of};
 ghost use Rattle.lsp_trail.specs.Bases.{AddedAt, AddedBy, Begun, BegunBy, ChangesOne, ClosedBy};
 ghost use Rattle.lsp_trail.specs.Bases.{KeepsBy, ShownBy, held_of, sent_by};
 ghost use Rattle.lsp_trail.specs.SentEdits.{SentEdits, sent_edits};

@@ -1,9 +1,6 @@
 //! Which events sent and answered requests, and which event led to the phase.
 ghost use Rattle.std.specs.Prelude.{◌≡◌, [], List, None, OnOk, unwrap_or};
-ghost use Rattle.lsp_docs.specs.Documents.{Terms};
-ghost use Rattle.lsp_rpc.specs.Ident.{id_view};
-ghost use Rattle.lsp_rpc.specs.View.{message_view};
-ghost use Rattle.lsp_verdict.specs.Event.{Event};
+ghost use Rattle.lsp_replay.specs.Common.{Event, id_view, message_view, Terms};
 ghost use Rattle.lsp_trail.specs.Asking.{answered, asked, leads, numbered, same_phase, since};
 ghost use Rattle.lsp_trail.specs.Renames.{RenamesIn};
 ghost use Rattle.lsp_trail.specs.Conversations.{IsConversation, Exchanges, Says, SessionStands};

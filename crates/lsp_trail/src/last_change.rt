@@ -2,13 +2,10 @@
 ghost use Rattle.std.specs.Prelude.{◌≡◌, [], List, Some, OnOk, option_map};
 ghost use Rattle.std.specs.Option.{option_or};
 ghost use Rattle.std.specs.Str.{bytes_eq, chars};
-ghost use Rattle.lsp_docs.specs.Documents.{Terms};
-ghost use Rattle.lsp_docs.specs.Taken.{call_view};
+ghost use Rattle.lsp_replay.specs.Common.{call_view, edit_of, edits_of, Event, Terms};
 ghost use Rattle.lsp_trail.specs.LastChange as spec;
 ghost use Rattle.lsp_trail.specs.LastChange.{IsLastChange, held_edits, held_view, last_view};
 ghost use Rattle.lsp_trail.specs.LastChange.{same_edits, sent_change};
-ghost use Rattle.lsp_text.specs.Changes.{edit_of, edits_of};
-ghost use Rattle.lsp_verdict.specs.Event.{Event};
 
 use crate::base::room_after;
 use crate::copies::write_over;

@@ -1,8 +1,7 @@
 //! The marks of documents, by URI.
 ghost use Rattle.std.specs.Prelude.{◌≡◌, [], true, false, List, IfNone, IfOk, IfSome, OnOk};
-ghost use Rattle.lsp_docs.specs.Documents.{Terms};
+ghost use Rattle.lsp_replay.specs.Common.{Event, Terms};
 ghost use Rattle.lsp_replay.specs.declared.heard.EventPlace.{EventPlace as Place};
-ghost use Rattle.lsp_verdict.specs.Event.{Event};
 ghost use Rattle.lsp_trail.specs.History.{is_closing};
 ghost use Rattle.lsp_trail.specs.Marking.{agreed, opened, recent, steps, unmarked, waiting_for};
 ghost use Rattle.lsp_trail.specs.Marking.{AreMarks, IsAt, MarkedBy, StepsOn, finds_equal};

@@ -1,18 +1,13 @@
 //! Which document a message names in its params, and whether a document is open.
 ghost use Rattle.std.specs.Prelude.{◌≡◌, IfOk, List, None, is_some, option_map, string_bytes};
 ghost use Rattle.lsp_docs.specs.Calls.{Call as SpecCall};
-ghost use Rattle.lsp_docs.specs.Documents.{held};
-ghost use Rattle.lsp_docs.specs.State.{Stands};
+ghost use Rattle.lsp_replay.specs.Common.{Event, held, MaySpeak, message_view, outline, Stands};
 ghost use Rattle.lsp_trail.specs.Naming as spec;
 ghost use Rattle.lsp_trail.specs.Naming.{version_named, version_named_at};
 ghost use Rattle.lsp_outline.specs.Versions.{version_view, versioned};
-ghost use Rattle.lsp_replay.specs.Telling.{MaySpeak};
 ghost use Rattle.lsp_rpc.specs.Message.{Message as AMessage};
-ghost use Rattle.lsp_rpc.specs.Outline.{outline};
 ghost use Rattle.lsp_rpc.specs.Reading.{Reads};
-ghost use Rattle.lsp_rpc.specs.View.{message_view};
 ghost use Rattle.lsp_types.specs.declared.side.Side.TheVariants.{Editor, Server};
-ghost use Rattle.lsp_verdict.specs.Event.{Event};
 ghost use Rattle.lsp_verdict.specs.Given.{raw_view};
 ghost use Rattle.lsp_verdict.specs.Placed as placed;
 

@@ -4,8 +4,7 @@ ghost use Rattle.std.specs.Prelude.{◌≡◌, ◌++◌, ◌∷◌, ◌<◌, [],
 ghost use Rattle.std.specs.Prelude.{IsTrue, string_bytes, true};
 ghost use Rattle.std.specs.List.{list_any};
 ghost use Rattle.std.specs.Str.{bytes_eq};
-ghost use Rattle.lsp_docs.specs.Documents.{Terms};
-ghost use Rattle.lsp_verdict.specs.Event.{Event};
+ghost use Rattle.lsp_replay.specs.Common.{Event, Terms};
 ghost use Rattle.lsp_trail.specs.History.{kept_call, on_document, last_ones, last_that};
 ghost use Rattle.lsp_trail.specs.Openings.{AreOpenings, Holds, OpenedBy, OpensBy, closing_by};
 ghost use Rattle.lsp_trail.specs.Openings.{closing_of, closings, has_name, last_on};

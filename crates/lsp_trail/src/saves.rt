@@ -2,13 +2,10 @@
 ghost use Rattle.std.specs.Prelude.{◌≡◌, [], List, OnOk, option_map};
 ghost use Rattle.std.specs.List.{cons_option};
 ghost use Rattle.lsp_docs.specs.Calls.{Call as SpecCall};
-ghost use Rattle.lsp_docs.specs.Documents.{Terms};
-ghost use Rattle.lsp_docs.specs.State.{Stands};
-ghost use Rattle.lsp_docs.specs.Taken.{call_view};
+ghost use Rattle.lsp_replay.specs.Common.{call_view, Event, Stands, Terms};
 ghost use Rattle.lsp_trail.specs.Openings.{Holds};
 ghost use Rattle.lsp_trail.specs.Saves as spec;
 ghost use Rattle.lsp_trail.specs.Saves.{AreSaves, most_saves};
-ghost use Rattle.lsp_verdict.specs.Event.{Event};
 
 use crate::naming::if_unopened;
 use crate::openings::{DocumentEvent, last_on, push};

@@ -1,11 +1,9 @@
 //! Open documents of which the URI differs from another one in its spelling alone.
 ghost use Rattle.std.specs.Prelude.{◌≡◌, ◌&&◌, List, IfOk, is_some, string_bytes};
 ghost use Rattle.lsp_docs.specs.Calls.{Call as SpecCall};
-ghost use Rattle.lsp_docs.specs.Documents.{Terms, held};
-ghost use Rattle.lsp_docs.specs.State.{Stands};
+ghost use Rattle.lsp_replay.specs.Common.{Event, held, Stands, Terms};
 ghost use Rattle.lsp_trail.specs.Openings.{AreOpenings, last_on};
 ghost use Rattle.lsp_trail.specs.Spelled as spec;
-ghost use Rattle.lsp_verdict.specs.Event.{Event};
 
 use crate::openings::{DocumentEvent, Openings};
 use lsp_docs::Docs;

@@ -1,10 +1,9 @@
 //! What is kept of the events of a session on the way: which of them led to what.
 ghost use Rattle.std.specs.Prelude.{◌≡◌, ◌++◌, ◌∷◌, [], IfOk, List, None, OnOk, Some, option_map};
-ghost use Rattle.lsp_docs.specs.Documents.{Terms};
-ghost use Rattle.lsp_replay.specs.Telling.{IsSeen, MaySpeak, Stood, kept_before, rule_of};
+ghost use Rattle.lsp_replay.specs.Common.{Heard, heard_events, IsNoted, IsSeen, kept_before};
+ghost use Rattle.lsp_replay.specs.Common.{MaySpeak, rule_of, Stood, Terms};
 ghost use Rattle.lsp_verdict.specs.Given.{raw_view};
-ghost use Rattle.lsp_verdict.specs.Heard.{Heard, heard_events};
-ghost use Rattle.lsp_verdict.specs.Offences.{IsNoted, said_at};
+ghost use Rattle.lsp_verdict.specs.Offences.{said_at};
 ghost use Rattle.lsp_trail.specs.History.{kept_call};
 ghost use Rattle.lsp_trail.specs.Marking.{finds_equal, marked_in};
 ghost use Rattle.lsp_trail.specs.Trails.{IsTrail, Keeps};

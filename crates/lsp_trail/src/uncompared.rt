@@ -1,8 +1,7 @@
 //! Which snapshots were not compared when they were shown.
 ghost use Rattle.std.specs.Prelude.{◌≡◌, [], None, OnOk, Some, option_map};
 ghost use Rattle.std.specs.Str.{chars};
-ghost use Rattle.lsp_docs.specs.Calls.{shows};
-ghost use Rattle.lsp_docs.specs.Taken.{call_view};
+ghost use Rattle.lsp_replay.specs.Common.{call_view, shows};
 ghost use Rattle.lsp_trail.specs.Uncompared as spec;
 ghost use Rattle.lsp_trail.specs.Uncompared.{LeavesOn, left_of, shown_text, shown_view};
 ghost use Rattle.lsp_trail.specs.Uncompared.{uncompared_in};

@@ -8,24 +8,21 @@ use Rattle.std.proofs.Common.{append-nil, arith}
 use Rattle.std.proofs.lemmas.Bool.{and_from}
 use Rattle.std.proofs.lemmas.Bool.Decides.{nat_tests}
 use Rattle.std.proofs.lemmas.List.{length-take, length-drop, take-append-drop}
-use Rattle.lsp_frame.specs.Bounds.{Bounds, IsInRange}
-use Rattle.lsp_frame.specs.declared.format.Format.{Format}
-use Rattle.lsp_frame.specs.Frame.{Frames, Begins, HasFault, IsStream}
-use Rattle.lsp_frame.specs.Sink.{canonical}
+use Rattle.lsp_replay.specs.Common.{Bounds, broken, canonical, chunk, content, first_from}
+use Rattle.lsp_replay.specs.Common.{first_line, Format, format_or_one, Frames, HasRest, IsInRange}
+use Rattle.lsp_replay.specs.Common.{IsLog, IsStream, joined, LogCode, Placed, show, shown, Side}
+use Rattle.lsp_replay.specs.Common.{spelling}
+use Rattle.lsp_frame.specs.Frame.{Begins, HasFault}
 use Rattle.lsp_frame.proofs.Canonical.{canonical_frame}
 use Rattle.lsp_frame.proofs.Frames.{frames_more, frames_push}
-use Rattle.lsp_types.specs.declared.side.Side.{Side}
 use Rattle.lsp_types.specs.declared.side.Side.TheVariants.{Editor, Server}
-use Rattle.lsp_log.specs.Log.{Record, chunk, shown, first_line, spelling, Fits, IsLog}
-use Rattle.lsp_log.specs.declared.fault.LogCode.{LogCode}
+use Rattle.lsp_log.specs.Log.{Record, Fits}
 use Rattle.lsp_log.proofs.OneLog.{written_is_read}
 use Rattle.lsp_verdict.specs.Laws.{merged, put}
-use Rattle.lsp_verdict.specs.LookBack.{first_from}
 use Rattle.lsp_extract.specs.Normal.{cut, chunks, records_of, form_of, no_at, IsNormal, before_fault}
 use Rattle.lsp_extract.specs.Normal.{is_frame_rule, NormalFormKeepsEvents, NormalFormStays}
-use Rattle.lsp_verdict.specs.Outcome.{HasRest, format_or_one}
-use Rattle.lsp_verdict.specs.Placed.{Raw, content, broken, show, Brings, new_fault, Placed}
-use Rattle.lsp_verdict.specs.Placed.{PlacedAfter, joined}
+use Rattle.lsp_verdict.specs.Placed.{Raw, Brings, new_fault}
+use Rattle.lsp_verdict.specs.Placed.{PlacedAfter}
 use Rattle.lsp_verdict.specs.Verdict.{Verdict}
 use Rattle.lsp_extract.proofs.Forming.Pieces.{cut_none, cut_some}
 use Rattle.lsp_verdict.proofs.Below.{one_log}

@@ -4,18 +4,13 @@ use Rattle.std.specs.Option.{option_or}
 use Rattle.std.proofs.Common.{◌≡◌, ℕ, ◌+◌, ◌^◌, ◌<◌, List, [], ◌∷◌, ◌++◌, length, Bool, true, false}
 use Rattle.std.proofs.Common.{Option, Some, None, refl, sym, ap, subst, ◌∙◌, length-append, arith}
 use Rattle.std.proofs.lemmas.Option.{same_Some}
-use Rattle.lsp_frame.specs.Bounds.{Bounds, IsInRange}
-use Rattle.lsp_frame.specs.declared.format.Format.{Format}
-use Rattle.lsp_types.specs.declared.side.Side.{Side}
+use Rattle.lsp_replay.specs.Common.{as_given, Bounds, broken, capped, content, ending, first_from}
+use Rattle.lsp_replay.specs.Common.{Format, IsInRange, IsLog, LogCode, no, Placed, show, Side}
+use Rattle.lsp_replay.specs.Common.{who_of}
 use Rattle.lsp_types.specs.declared.side.Side.TheVariants.{Editor, Server}
-use Rattle.lsp_docs.specs.State.{capped}
-use Rattle.lsp_log.specs.Log.{Record, IsLog}
-use Rattle.lsp_log.specs.declared.fault.LogCode.{LogCode}
-use Rattle.lsp_verdict.specs.Given.{as_given}
-use Rattle.lsp_verdict.specs.LookBack.{first_from}
-use Rattle.lsp_verdict.specs.Outcome.{ending}
-use Rattle.lsp_verdict.specs.Placed.{Raw, content, broken, show, Placed}
-use Rattle.lsp_verdict.specs.Verdict.{Verdict, no, who_of}
+use Rattle.lsp_log.specs.Log.{Record}
+use Rattle.lsp_verdict.specs.Placed.{Raw}
+use Rattle.lsp_verdict.specs.Verdict.{Verdict}
 use Rattle.lsp_verdict.proofs.EventCounts.{count_few}
 use Rattle.lsp_verdict.proofs.ExactCounts.{capped_is, raws_within}
 use Rattle.lsp_extract.specs.Normal.{is_of, no_next, no_at, first_broken, rest_of, fault_of}

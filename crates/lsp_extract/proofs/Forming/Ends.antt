@@ -2,15 +2,14 @@
 use Rattle.std.specs.Option.{option_or}
 use Rattle.std.proofs.Common.{◌≡◌, List, [], ◌∷◌, ◌++◌, Bool, true, false, Option, Some, None, refl}
 use Rattle.std.proofs.Common.{sym, ap, subst, ◌∙◌}
-use Rattle.lsp_frame.specs.Bounds.{Bounds}
+use Rattle.lsp_replay.specs.Common.{Bounds, broken, content, ending, ends_inside, first_from}
+use Rattle.lsp_replay.specs.Common.{is_rest, show}
 use Rattle.lsp_log.specs.Log.{Record}
 use Rattle.lsp_extract.specs.Normal.{first_broken, fault_of, no_at, no_next, rest_of, CarriesCapped}
 use Rattle.lsp_extract.specs.Normal.{EndsWhole}
-use Rattle.lsp_replay.specs.Streams.{State, Stands, ends_inside}
+use Rattle.lsp_replay.specs.Streams.{State, Stands}
 use Rattle.lsp_types.specs.declared.side.Side.TheVariants.{Editor, Server}
-use Rattle.lsp_verdict.specs.LookBack.{first_from}
-use Rattle.lsp_verdict.specs.Outcome.{ending, is_rest}
-use Rattle.lsp_verdict.specs.Placed.{Raw, content, broken, show}
+use Rattle.lsp_verdict.specs.Placed.{Raw}
 use Rattle.lsp_verdict.specs.Verdict.{Verdict}
 use Rattle.lsp_verdict.specs.declared.outcome.Outcome.{Outcome}
 use Rattle.lsp_replay.proofs.Fronts.{faults_in, side_rest, side_ends}

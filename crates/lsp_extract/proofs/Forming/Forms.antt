@@ -5,22 +5,17 @@ use Rattle.std.proofs.Common.{◌≡◌, ℕ, suc, ◌+◌, List, [], ◌∷◌,
 use Rattle.std.proofs.Common.{refl, sym, ap, subst, ◌∙◌, append_assoc, append-nil}
 use Rattle.std.proofs.lemmas.Grind.{flat_map-append}
 use Rattle.std.specs.Option.{option_or}
-use Rattle.lsp_frame.specs.Sink.{canonical}
-use Rattle.lsp_frame.specs.declared.format.Format.{Format}
-use Rattle.lsp_types.specs.declared.side.Side.{Side}
+use Rattle.lsp_replay.specs.Common.{AreCounts, as_given, broken, canonical, content, Counts, Event}
+use Rattle.lsp_replay.specs.Common.{first_from, first_line, Format, no, show, shown, Side, spelling}
+use Rattle.lsp_replay.specs.Common.{Who, who_of, whose}
 use Rattle.lsp_types.specs.declared.side.Side.TheVariants.{Editor, Server}
-use Rattle.lsp_log.specs.Log.{Record, shown, first_line, spelling}
-use Rattle.lsp_verdict.specs.LookBack.{first_from}
-use Rattle.lsp_verdict.specs.Placed.{Raw, content, broken, show}
+use Rattle.lsp_log.specs.Log.{Record}
+use Rattle.lsp_verdict.specs.Placed.{Raw}
 use Rattle.lsp_extract.specs.Normal.{chunks, records_of, form_of, is_of, no_next, no_at, first_broken}
 use Rattle.lsp_extract.specs.Normal.{mark, Counted, spelled}
-use Rattle.lsp_verdict.specs.Given.{as_given, AreCounts}
-use Rattle.lsp_verdict.specs.Event.{Event}
-use Rattle.lsp_verdict.specs.declared.counts.Counts.{Counts}
-use Rattle.lsp_verdict.specs.declared.verdict.Who.{Who}
 use Rattle.std.proofs.lemmas.List.{length-map, map-append}
 use Rattle.lsp_verdict.specs.Verdict as verdict
-use Rattle.lsp_verdict.specs.Verdict.{Verdict, no, who_of, belongs_to, count_of, whose}
+use Rattle.lsp_verdict.specs.Verdict.{Verdict, belongs_to, count_of}
 use Rattle.lsp_verdict.proofs.LookBackLemmas.{first_of-snoc}
 
 -- ---- events without a fault, and with one

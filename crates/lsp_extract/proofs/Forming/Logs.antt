@@ -4,34 +4,31 @@ use Rattle.std.proofs.Common.{◌≡◌, ℕ, ◌+◌, ◌-◌, ◌<◌, List, [
 use Rattle.std.proofs.Common.{None, Ok, Err, refl, sym, ap, subst, ◌∙◌, append_assoc, append-nil}
 use Rattle.std.proofs.Common.{arith}
 use Rattle.std.proofs.lemmas.List.{length_push, length-map, length-append}
-use Rattle.lsp_frame.specs.Bounds.{Bounds}
-use Rattle.lsp_frame.specs.Sink.{Wrote, Stopped}
-use Rattle.lsp_frame.specs.Told.{Told, Took}
-use Rattle.lsp_frame.specs.declared.format.Format.{Format}
+use Rattle.lsp_replay.specs.Common.{AreCounts, as_given, bad_log, Bounds, Counts, ending}
+use Rattle.lsp_replay.specs.Common.{failures_after, first_line, Format, format_or_one, HasGiven}
+use Rattle.lsp_replay.specs.Common.{HasRest, IsLogOf, joined, LogCode, Opens, ports, RunFault}
+use Rattle.lsp_replay.specs.Common.{sink_failures_after, Stopped, Tells, Told, Took}
+use Rattle.lsp_frame.specs.Sink.{Wrote}
 use Rattle.lsp_frame.proofs.Telling.{took_nothing}
 use Rattle.lsp_frame.proofs.Writing.{stopped_then, wrote_nothing, wrote_then}
-use Rattle.lsp_log.specs.Log.{Record, first_line}
-use Rattle.lsp_log.specs.declared.fault.LogCode.{LogCode}
+use Rattle.lsp_log.specs.Log.{Record}
 use Rattle.lsp_replay.specs.LogEvents as log_events
-use Rattle.lsp_replay.specs.LogEvents.{Gives, HasGiven, IsLogOf, Opens, Reads, flaw_of}
+use Rattle.lsp_replay.specs.LogEvents.{Gives, Reads, flaw_of}
 use Rattle.lsp_extract.specs.Normal.{form_of, fault_of, EndsNormal, BeginsNormal, IsNormal, Carries}
 use Rattle.lsp_extract.specs.Normal.{Normalizes, first_broken, mark, CarriesCapped, spelled, EndsLog}
 use Rattle.lsp_extract.specs.Normal.{EndsWhole, Counted, WritesEvent}
-use Rattle.lsp_verdict.specs.Runs.{ports, BreaksOff, Tells, failures_after, sink_failures_after}
-use Rattle.lsp_verdict.specs.Given.{as_given, raw_view, AreCounts}
+use Rattle.lsp_verdict.specs.Runs.{BreaksOff}
+use Rattle.lsp_verdict.specs.Given.{raw_view}
 use Rattle.lsp_replay.specs.declared.log_events.End.{End}
 use Rattle.lsp_replay.specs.declared.log_events.End.TheVariants.{Sound, Bad}
 use Rattle.lsp_replay.specs.declared.log_events.LogEvents.{LogEvents}
 use Rattle.lsp_replay.specs.declared.log_events.Next.TheVariants as next
 use Rattle.lsp_verdict.specs.declared.raw.Raw as code
 use Rattle.lsp_types.specs.declared.side.Side.TheVariants.{Editor, Server}
-use Rattle.lsp_verdict.specs.Outcome.{HasRest, ending, format_or_one}
-use Rattle.lsp_verdict.specs.Placed.{Raw, joined}
-use Rattle.lsp_verdict.specs.Verdict.{Verdict, bad_log}
-use Rattle.lsp_verdict.specs.declared.counts.Counts.{Counts}
+use Rattle.lsp_verdict.specs.Placed.{Raw}
+use Rattle.lsp_verdict.specs.Verdict.{Verdict}
 use Rattle.lsp_verdict.specs.declared.outcome.Outcome.{Outcome}
 use Rattle.lsp_verdict.specs.declared.outcome.Outcome.TheVariants.{Done, Judged}
-use Rattle.lsp_verdict.specs.declared.outcome.RunFault.{RunFault}
 use Rattle.lsp_verdict.specs.declared.outcome.RunFault.TheVariants as faults
 use Rattle.lsp_verdict.specs.declared.verdict.Verdict.TheVariants as verdicts
 use Rattle.lsp_verdict.proofs.Below.{some_stream}

@@ -2,17 +2,14 @@
 use Rattle.std.specs.Option.{option_or}
 use Rattle.std.proofs.Common.{◌≡◌, ℕ, List, [], ◌++◌, Option, Some, refl, sym, ap, ◌∙◌}
 use Rattle.std.proofs.Common.{append_assoc}
-use Rattle.lsp_frame.specs.Bounds.{Bounds, IsInRange}
-use Rattle.lsp_frame.specs.declared.format.Format.{Format}
+use Rattle.lsp_replay.specs.Common.{as_given, bad_log_of, Bounds, Ending, ending, Format}
+use Rattle.lsp_replay.specs.Common.{format_or_one, HasGiven, IsInRange, joined}
 use Rattle.lsp_types.specs.declared.side.Side.TheVariants.{Editor, Server}
 use Rattle.lsp_log.specs.Log.{Record}
-use Rattle.lsp_replay.specs.LogEvents.{HasGiven}
 use Rattle.lsp_extract.specs.Normal.{form_of, no_at, first_broken, fault_of, rest_of, IsNormal}
 use Rattle.lsp_extract.specs.Normal.{BeginsNormal, SomeNormalForm, OneNormalForm}
-use Rattle.lsp_verdict.specs.Given.{as_given}
-use Rattle.lsp_verdict.specs.Outcome.{ending, format_or_one}
-use Rattle.lsp_verdict.specs.Placed.{Raw, joined}
-use Rattle.lsp_verdict.specs.Verdict.{Verdict, Ending, bad_log_of}
+use Rattle.lsp_verdict.specs.Placed.{Raw}
+use Rattle.lsp_verdict.specs.Verdict.{Verdict}
 use Rattle.lsp_verdict.proofs.Below.{one_log, some_log, some_stream}
 use Rattle.lsp_verdict.proofs.LookBackLemmas.{first_of-more}
 use Rattle.lsp_extract.proofs.Forming.Counts.{broken_exact}

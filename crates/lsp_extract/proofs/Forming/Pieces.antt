@@ -12,11 +12,9 @@ use Rattle.std.proofs.Math.Seq.{take-append-add, drop-append-add}
 use Rattle.std.proofs.lemmas.Bool.{cases_lt}
 use Rattle.std.proofs.lemmas.List.{length-append, length-drop, take-append-le, drop-append-le}
 use Rattle.std.proofs.lemmas.List.{take_all, drop_all}
-use Rattle.lsp_frame.specs.Sink.{Wrote, Stopped}
-use Rattle.lsp_frame.specs.Told.{Told}
+use Rattle.lsp_frame.specs.Sink.{Wrote}
+use Rattle.lsp_replay.specs.Common.{chunk, Side, spelling, Stopped, Told}
 use Rattle.lsp_frame.proofs.Writing.{HasPut, wrote_then, stopped_then, stopped_before}
-use Rattle.lsp_types.specs.declared.side.Side.{Side}
-use Rattle.lsp_log.specs.Log.{chunk, spelling}
 use Rattle.lsp_extract.specs.Normal.{cut, chunks}
 
 -- ---- the pieces, one after another

@@ -5,18 +5,15 @@ use Rattle.std.specs.List.{AllZip, AllByRecursion}
 use Rattle.std.proofs.Common.{◌≡◌, ℕ, ◌≤◌, List, [], ◌∷◌, ◌++◌, length, true, false, Option, Some}
 use Rattle.std.proofs.Common.{None, refl, sym, ap, subst, ◌∙◌}
 use Rattle.std.proofs.lemmas.Bool.{false≢true}
-use Rattle.lsp_frame.specs.Bounds.{Bounds, IsInRange}
-use Rattle.lsp_frame.specs.declared.format.Format.{Format}
-use Rattle.lsp_docs.specs.Documents.{Terms, terms_of}
-use Rattle.lsp_log.specs.declared.fault.LogCode.{LogCode}
-use Rattle.lsp_verdict.specs.Event.{Event, fault}
-use Rattle.lsp_verdict.specs.LookBack.{first_from}
+use Rattle.lsp_replay.specs.Common.{bad_log_of, Bounds, broken, content, Event, first_from}
+use Rattle.lsp_replay.specs.Common.{first_no, Format, format_or_one, is_rest, IsInRange, IsVerdict}
+use Rattle.lsp_replay.specs.Common.{log_terms, LogCode, no_at, no_next, Placed, Reads, rest_of}
+use Rattle.lsp_replay.specs.Common.{show, summary, Terms, terms_of, whose, yes}
+use Rattle.lsp_verdict.specs.Event.{fault}
 use Rattle.lsp_extract.specs.Normal.{form_of, IsNormal, before_fault, is_frame_rule, IsOnEvents}
 use Rattle.lsp_extract.specs.Normal.{NormalFormKeepsVerdict}
-use Rattle.lsp_verdict.specs.Outcome.{is_rest, IsVerdict, format_or_one, log_terms}
-use Rattle.lsp_verdict.specs.Placed.{Raw, content, broken, show, Placed, Reads}
-use Rattle.lsp_verdict.specs.Verdict.{Verdict, yes, bad_log_of, rest_of, no_at, first_no, no_next}
-use Rattle.lsp_verdict.specs.Verdict.{summary, whose}
+use Rattle.lsp_verdict.specs.Placed.{Raw}
+use Rattle.lsp_verdict.specs.Verdict.{Verdict}
 use Rattle.lsp_verdict.proofs.Logs.{offence_decides}
 use Rattle.lsp_extract.proofs.Forming.Again.{IsSane, again, placed_sane, log_fits, form_is}
 use Rattle.lsp_verdict.proofs.LookBackLemmas.{or_none_parts}

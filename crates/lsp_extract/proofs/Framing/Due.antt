@@ -3,13 +3,10 @@
 use Rattle.std.specs.Prelude.{nat_lt}
 use Rattle.std.proofs.Common.{◌≡◌, ℕ, ◌-◌, ◌≤◌, List, ◌++◌, length, take, Option, ap, subst, ◌∙◌}
 use Rattle.std.proofs.Common.{append_assoc}
-use Rattle.lsp_frame.specs.Bounds.{Bounds}
-use Rattle.lsp_frame.specs.Frame.{Frames, IsStream}
+use Rattle.lsp_replay.specs.Common.{Bounds, Frames, IsStream, Mode, StreamFault}
 use Rattle.lsp_frame.proofs.Frames.{one_stream, frames_first, frames_more, take_beyond}
 use Rattle.lsp_extract.specs.Stream.{RunsThrough, AreParts, fault_of, HasParts, closing, IsRun}
-use Rattle.lsp_verdict.specs.declared.outcome.Mode.{Mode}
 use Rattle.lsp_verdict.specs.declared.outcome.Outcome.{Outcome}
-use Rattle.lsp_verdict.specs.declared.outcome.StreamFault.{StreamFault}
 use Rattle.lsp_extract.proofs.Framing.Parts.{SameRun, one_run, run_begins}
 
 -- ---- one output

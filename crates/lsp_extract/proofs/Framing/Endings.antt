@@ -5,19 +5,15 @@ use Rattle.std.proofs.Common.{append_assoc, arith, inl, inr}
 use Rattle.std.specs.Io.KnownBytes.{IsAtEnd}
 use Rattle.std.proofs.lemmas.Bool.{false≢true, lt-ltb}
 use Rattle.std.proofs.lemmas.List.{length-append, length-replicate}
-use Rattle.lsp_frame.specs.Bounds.{Bounds}
-use Rattle.lsp_frame.specs.Frame.{Frames}
+use Rattle.lsp_replay.specs.Common.{Bounds, failures_after, Frames, Gave, Memory, Mode, ports, Read}
+use Rattle.lsp_replay.specs.Common.{RunFault, sink_failures_after, Tells, Told, Took, Write}
 use Rattle.lsp_frame.specs.Sink.{Wrote}
-use Rattle.lsp_frame.specs.Told.{Told, Gave, Took}
 use Rattle.lsp_frame.proofs.Writing.{wrote_then, stopped_then}
 use Rattle.lsp_extract.specs.Stream.{RunsThrough, fault_of, HasParts, closing, IsRun, BeginsRun}
 use Rattle.lsp_extract.specs.Stream.{RunsFrames, AreParts, WroteParts}
-use Rattle.lsp_verdict.specs.Runs.{GoesOn, Tells, failures_after, sink_failures_after, ports}
-use Rattle.lsp_verdict.specs.declared.outcome.Mode.{Mode}
+use Rattle.lsp_verdict.specs.Runs.{GoesOn}
 use Rattle.lsp_verdict.specs.declared.outcome.Outcome.{Outcome}
 use Rattle.lsp_verdict.specs.declared.outcome.Outcome.TheVariants.{Done}
-use Rattle.lsp_verdict.specs.declared.outcome.RunFault.{RunFault}
-use Rattle.lsp_verdict.specs.declared.outcome.RunFault.TheVariants.{Read, Write, Memory}
 use Rattle.lsp_verdict.proofs.RunsJudged.{read_map}
 use Rattle.lsp_extract.proofs.Framing.Due.{due_is, due_begins}
 use Rattle.lsp_extract.proofs.Due.{due_begun, due_written}

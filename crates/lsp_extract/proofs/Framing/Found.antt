@@ -2,15 +2,13 @@
 use Rattle.std.proofs.Common.{◌≡◌, ℕ, ◌+◌, List, [], ◌∷◌, ◌++◌, length, Some, None, Ok, Err}
 use Rattle.std.proofs.Common.{sym, ap, subst, ◌∙◌, append_assoc, arith, inl, inr}
 use Rattle.std.proofs.lemmas.List.{length_push, append-nil}
-use Rattle.lsp_frame.specs.Sink.{Wrote, Stopped}
-use Rattle.lsp_frame.specs.Told.{Told, Took}
-use Rattle.lsp_frame.specs.Decoder.{State, StandsFor, Next}
+use Rattle.lsp_frame.specs.Sink.{Wrote}
+use Rattle.lsp_replay.specs.Common.{Memory, Mode, Read, RunFault, StandsFor, State, Stopped, Told}
+use Rattle.lsp_replay.specs.Common.{Took, Write}
+use Rattle.lsp_frame.specs.Decoder.{Next}
 use Rattle.lsp_frame.proofs.Writing.{wrote_then, stopped_then}
 use Rattle.lsp_extract.specs.Stream.{IsPart, Refuses, AreParts, WritesPart, FoundAll, FoundFault}
 use Rattle.lsp_extract.specs.Stream.{FoundBroken, Finds}
-use Rattle.lsp_verdict.specs.declared.outcome.Mode.{Mode}
-use Rattle.lsp_verdict.specs.declared.outcome.RunFault.{RunFault}
-use Rattle.lsp_verdict.specs.declared.outcome.RunFault.TheVariants.{Read, Write, Memory}
 use Rattle.lsp_extract.proofs.Framing.Parts.{parts_push}
 use Rattle.lsp_extract.proofs.SameLimits.{frames_at}
 

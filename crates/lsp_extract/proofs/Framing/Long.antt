@@ -2,12 +2,11 @@
 use Rattle.std.proofs.Common.{◌≡◌, ℕ, ◌+◌, ◌-◌, ◌≤◌, ◌<◌, List, [], ◌∷◌, ◌++◌, length, Bool, false}
 use Rattle.std.proofs.Common.{None, Result, Err, refl, sym, ap, subst, ◌∙◌, append-nil, arith}
 use Rattle.std.proofs.lemmas.List.{length-append, length_push}
-use Rattle.lsp_frame.specs.Bounds.{Bounds}
-use Rattle.lsp_frame.specs.Sink.{Wrote, Stopped}
-use Rattle.lsp_frame.specs.Frame.{Frames}
-use Rattle.lsp_frame.specs.Told.{Told, after_failure}
-use Rattle.lsp_frame.specs.Decoder.{State, EndsWith, pushed, room_for}
-use Rattle.lsp_frame.specs.Pulling.{Misses, window_of, GavePast, FailsPast, PassesAll, EndsBefore}
+use Rattle.lsp_replay.specs.Common.{after_failure, Bounds, Frames, Lengths, Misses, Mode, ports}
+use Rattle.lsp_replay.specs.Common.{RunFault, State, Stopped, Told}
+use Rattle.lsp_frame.specs.Sink.{Wrote}
+use Rattle.lsp_frame.specs.Decoder.{EndsWith, pushed, room_for}
+use Rattle.lsp_frame.specs.Pulling.{window_of, GavePast, FailsPast, PassesAll, EndsBefore}
 use Rattle.lsp_frame.specs.Pulling.{Passes}
 use Rattle.lsp_frame.specs.declared.decoder.Missing.{Missing}
 use Rattle.lsp_frame.proofs.Frames.{frames_more}
@@ -16,11 +15,8 @@ use Rattle.lsp_frame.proofs.Telling.{gave_nothing, gave_then}
 use Rattle.lsp_frame.proofs.Writing.{wrote_then}
 use Rattle.lsp_frame.specs.declared.decoder.PullFault.{PullFault}
 use Rattle.lsp_frame.specs.declared.decoder.PullFault.TheVariants as pulls
-use Rattle.lsp_verdict.specs.Runs.{of_pull, ports}
-use Rattle.lsp_verdict.specs.declared.outcome.Mode.{Mode}
-use Rattle.lsp_verdict.specs.declared.outcome.Mode.TheVariants.{Lengths}
+use Rattle.lsp_verdict.specs.Runs.{of_pull}
 use Rattle.lsp_verdict.specs.declared.outcome.Outcome.{Outcome}
-use Rattle.lsp_verdict.specs.declared.outcome.RunFault.{RunFault}
 use Rattle.lsp_verdict.specs.declared.outcome.RunFault.TheVariants as faults
 use Rattle.lsp_extract.specs.Stream.{numbers, length_line, outcome_at, RunsFrames, fault_of, AreParts}
 use Rattle.lsp_extract.specs.Stream.{WroteParts, SoFar, ToldAll, IsLong, LongAnswer}

@@ -2,18 +2,13 @@
 use Rattle.std.specs.Prelude.{nat_lt}
 use Rattle.std.proofs.Common.{ℕ, ◌+◌, List, [], ◌∷◌, ◌++◌, length, take, Option, refl, sym, ◌∙◌}
 use Rattle.std.proofs.Common.{inl, inr, ◌⊎◌}
-use Rattle.lsp_frame.specs.Sink.{canonical}
+use Rattle.lsp_replay.specs.Common.{Canonical, canonical, Kinds, Lengths, Mode, Rule, Stream}
+use Rattle.lsp_replay.specs.Common.{StreamFault, words_of}
 use Rattle.lsp_frame.proofs.Readings.{some_stream}
-use Rattle.lsp_rpc.specs.Words.{words_of}
 use Rattle.lsp_rpc.proofs.Readings.{message_or_rule}
 use Rattle.lsp_extract.specs.Stream.{length_line, kind_line, IsPart, Refuses, outcome_at, RunsThrough}
 use Rattle.lsp_extract.specs.Stream.{fault_of, HasParts, closing, SomeRun, OneRun}
-use Rattle.lsp_verdict.specs.declared.outcome.Mode.{Mode}
-use Rattle.lsp_verdict.specs.declared.outcome.Mode.TheVariants.{Lengths, Canonical, Kinds}
 use Rattle.lsp_verdict.specs.declared.outcome.Outcome.{Outcome}
-use Rattle.lsp_verdict.specs.declared.outcome.Outcome.TheVariants.{Stream}
-use Rattle.lsp_verdict.specs.declared.outcome.StreamFault.{StreamFault}
-use Rattle.lsp_verdict.specs.declared.outcome.StreamFault.TheVariants.{Rule}
 use Rattle.lsp_extract.proofs.Framing.Due.{same_parts, due_is}
 
 -- a content has a part, or the mode refuses it

@@ -2,16 +2,11 @@
 use Rattle.std.proofs.Common.{◌≡◌, ℕ, suc, ◌+◌, List, [], ◌∷◌, ◌++◌, length, Option, refl, sym, ap}
 use Rattle.std.proofs.Common.{subst, ◌∙◌, append_assoc, arith, inl, inr}
 use Rattle.std.proofs.lemmas.List.{append-nil}
-use Rattle.lsp_rpc.specs.Message.{Message}
-use Rattle.lsp_rpc.specs.Words.{words_of}
+use Rattle.lsp_replay.specs.Common.{Canonical, Kinds, Lengths, Message, Mode, Rule, Stream}
+use Rattle.lsp_replay.specs.Common.{StreamFault, words_of}
 use Rattle.lsp_rpc.proofs.Readings.{one_message, one_rule, not_both}
 use Rattle.lsp_extract.specs.Stream.{kind_line, IsPart, Refuses, outcome_at, RunsThrough, AreParts}
-use Rattle.lsp_verdict.specs.declared.outcome.Mode.{Mode}
-use Rattle.lsp_verdict.specs.declared.outcome.Mode.TheVariants.{Lengths, Canonical, Kinds}
 use Rattle.lsp_verdict.specs.declared.outcome.Outcome.{Outcome}
-use Rattle.lsp_verdict.specs.declared.outcome.Outcome.TheVariants.{Stream}
-use Rattle.lsp_verdict.specs.declared.outcome.StreamFault.{StreamFault}
-use Rattle.lsp_verdict.specs.declared.outcome.StreamFault.TheVariants.{Rule}
 
 -- ---- one answer for each content
 

@@ -6,10 +6,11 @@ use Rattle.std.proofs.Common.{◌∙◌, append_assoc, arith, inl, inr}
 use Rattle.std.specs.Io.KnownBytes.{IsAtEnd}
 use Rattle.std.proofs.lemmas.Bool.{false≢true, lt-ltb, le-ltb}
 use Rattle.std.proofs.lemmas.List.{append-nil, length-append, nil_from_length, take_all, take_at}
-use Rattle.lsp_frame.specs.Bounds.{Bounds}
-use Rattle.lsp_frame.specs.Frame.{Frames, IsStream}
-use Rattle.lsp_frame.specs.Told.{Told, Gave, KeepsBytes, after_failure}
-use Rattle.lsp_frame.specs.Decoder.{State, StandsFor, empty, taken, taken_at, room_for}
+use Rattle.lsp_replay.specs.Common.{after_failure, Bounds, failures_after, Frames, Gave, IsStream}
+use Rattle.lsp_replay.specs.Common.{Mode, ports, Rule, RunFault, sink_failures_after, StandsFor}
+use Rattle.lsp_replay.specs.Common.{State, Stream, Told, TooLong}
+use Rattle.lsp_frame.specs.Told.{KeepsBytes}
+use Rattle.lsp_frame.specs.Decoder.{empty, taken, taken_at, room_for}
 use Rattle.lsp_frame.specs.Pulling.{Pulls, PullFails}
 use Rattle.lsp_frame.specs.declared.decoder.PullFault.{PullFault}
 use Rattle.lsp_frame.specs.declared.decoder.PullFault.TheVariants as pulls
@@ -18,16 +19,12 @@ use Rattle.lsp_frame.proofs.Readings.{some_stream}
 use Rattle.lsp_frame.proofs.Steps.{new_stands}
 use Rattle.lsp_frame.proofs.Telling.{gave_nothing, gave_then, gave_kept, took_then}
 use Rattle.lsp_frame.proofs.Writing.{wrote_then, wrote_nothing}
-use Rattle.lsp_verdict.specs.declared.outcome.Mode.{Mode}
 use Rattle.lsp_verdict.specs.declared.outcome.Outcome.{Outcome}
-use Rattle.lsp_verdict.specs.declared.outcome.Outcome.TheVariants.{Stream}
-use Rattle.lsp_verdict.specs.declared.outcome.RunFault.{RunFault}
 use Rattle.lsp_verdict.specs.declared.outcome.RunFault.TheVariants as faults
-use Rattle.lsp_verdict.specs.declared.outcome.StreamFault.TheVariants.{Rule, TooLong}
 use Rattle.lsp_extract.specs.Stream.{Refuses, outcome_at, RunsThrough, fault_of, HasParts, RunsFrames}
 use Rattle.lsp_extract.specs.Stream.{AreParts, FoundAll, StopsAt, FoundFault, FoundBroken, Finds}
 use Rattle.lsp_extract.specs.Stream.{WroteParts, SoFar, ToldAll}
-use Rattle.lsp_verdict.specs.Runs.{of_pull, failures_after, sink_failures_after, ports}
+use Rattle.lsp_verdict.specs.Runs.{of_pull}
 use Rattle.lsp_extract.proofs.Framing.Parts.{run_through, run_refused}
 use Rattle.lsp_extract.proofs.Framing.Due.{stream_front}
 use Rattle.lsp_extract.proofs.Framing.Endings.{begun}

@@ -4,12 +4,11 @@ use Rattle.std.specs.Prelude.{MatchOption}
 use Rattle.std.proofs.Common.{◌≡◌, ◌-◌, List, [], Option, Some, None, slice_get, refl, sym, ap}
 use Rattle.std.proofs.Common.{subst, ◌∙◌}
 use Rattle.std.proofs.lemmas.Slice.Zip.{AllZip-right}
-use Rattle.lsp_frame.specs.Bounds.{Bounds}
+use Rattle.lsp_replay.specs.Common.{Bounds, Event, Placed, Reads}
 use Rattle.lsp_log.specs.Log.{Record}
 use Rattle.lsp_extract.specs.Event.{content_of, outcome_of, content_at, outcome_at, event_at}
 use Rattle.lsp_extract.specs.Event.{SomeEvent, OneEvent, EventIsNumbered}
-use Rattle.lsp_verdict.specs.Event.{Event}
-use Rattle.lsp_verdict.specs.Placed.{Raw, Placed, Reads}
+use Rattle.lsp_verdict.specs.Placed.{Raw}
 use Rattle.lsp_verdict.proofs.Below.{one_log, some_log}
 use Rattle.lsp_verdict.proofs.PlacedLemmas.{one_placed}
 use Rattle.lsp_verdict.proofs.Sessions.{some_placed}

@@ -4,15 +4,14 @@ use Rattle.std.proofs.Common.{None, Ok, Err, refl, sym, ap, subst, arith}
 use Rattle.std.proofs.lemmas.List.{length_push}
 use Rattle.std.proofs.lemmas.Option.{slice_get_past}
 use Rattle.std.specs.Io.KnownBytes.{IsAtEnd}
-use Rattle.lsp_frame.specs.Bounds.{Bounds}
-use Rattle.lsp_frame.specs.Sink.{Stopped, Wrote}
-use Rattle.lsp_frame.specs.Told.{Told}
-use Rattle.lsp_frame.specs.declared.format.Format.{Format}
+use Rattle.lsp_replay.specs.Common.{Bounds, broken, content, Format, HasGiven, IsLogOf, OfRead}
+use Rattle.lsp_replay.specs.Common.{Opens, ports, RunFault, show, Stopped, Told}
+use Rattle.lsp_frame.specs.Sink.{Wrote}
 use Rattle.lsp_log.specs.Log.{Record}
 use Rattle.lsp_extract.specs.Event.{content_at, content_of, outcome_of, outcome_at, event_at, without}
 use Rattle.lsp_extract.specs.Event.{BeginsEvent, GivesEvent, IsEvent, HasPassed}
-use Rattle.lsp_verdict.specs.Runs.{ports, BreaksOff, OfRead}
-use Rattle.lsp_replay.specs.LogEvents.{Ended, Gives, HasGiven, IsLogOf, Opens, Reads, flaw_of}
+use Rattle.lsp_verdict.specs.Runs.{BreaksOff}
+use Rattle.lsp_replay.specs.LogEvents.{Ended, Gives, Reads, flaw_of}
 use Rattle.lsp_verdict.specs.Given.{raw_view}
 use Rattle.lsp_extract.specs.declared.event.EventOutcome.TheVariants.{FewerEvents}
 use Rattle.lsp_replay.specs.declared.log_events.End.{End}
@@ -20,8 +19,7 @@ use Rattle.lsp_replay.specs.declared.log_events.End.TheVariants.{Sound, Bad}
 use Rattle.lsp_replay.specs.declared.log_events.LogEvents.{LogEvents}
 use Rattle.lsp_replay.specs.declared.log_events.Next.TheVariants as next
 use Rattle.lsp_verdict.specs.declared.raw.Raw as code
-use Rattle.lsp_verdict.specs.Placed.{Raw, content, broken, show}
-use Rattle.lsp_verdict.specs.declared.outcome.RunFault.{RunFault}
+use Rattle.lsp_verdict.specs.Placed.{Raw}
 use Rattle.lsp_verdict.specs.declared.outcome.RunFault.TheVariants as faults
 use Rattle.lsp_verdict.proofs.PlacedLemmas.{placed_whole}
 use Rattle.lsp_verdict.proofs.RunsJudged.{read_map, unwritten_sink}

@@ -1,9 +1,7 @@
 //! What is said about documents, and what it leaves of the notes.
 ghost use Rattle.std.specs.Prelude.{List, Some, None, OnOk, false, option_map, string_bytes};
 ghost use Rattle.lsp_docs.specs.Calls.{Call as SpecCall};
-ghost use Rattle.lsp_docs.specs.State.{Stands};
-ghost use Rattle.lsp_docs.specs.Taken.{call_view};
-ghost use Rattle.lsp_verdict.specs.Offences.{is_reopened};
+ghost use Rattle.lsp_replay.specs.Common.{call_view, is_reopened, Stands};
 ghost use Rattle.lsp_survey.specs.Notes.{AreAfter, Leaves};
 
 use crate::notes::note::Notes;

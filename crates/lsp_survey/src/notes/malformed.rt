@@ -2,13 +2,12 @@
 //! shape.
 ghost use Rattle.std.specs.Prelude.{◌≡◌, IfOk, None, Option, Some, codes, if◌then◌else◌};
 ghost use Rattle.std.specs.Prelude.{option_map};
-ghost use Rattle.lsp_rpc.specs.Ident.{id_view};
+ghost use Rattle.lsp_replay.specs.Common.{brought_by, id_view, IsReading, message_view, request_id};
+ghost use Rattle.lsp_replay.specs.Common.{required};
 ghost use Rattle.lsp_rpc.specs.Message.{Message as AMessage};
-ghost use Rattle.lsp_rpc.specs.Params.{required, uri_at};
-ghost use Rattle.lsp_rpc.specs.View.{message_view};
+ghost use Rattle.lsp_rpc.specs.Params.{uri_at};
 ghost use Rattle.lsp_survey.specs.Notes.{IsMeant};
-ghost use Rattle.lsp_verdict.specs.Offences.{IsReading, asks_handshake, brings_text, brought_by};
-ghost use Rattle.lsp_verdict.specs.Offences.{request_id};
+ghost use Rattle.lsp_verdict.specs.Offences.{asks_handshake, brings_text};
 ghost use Rattle.serde_json.specs.View.{view};
 
 use lsp_rpc::{Id, Memory, Message, Result, RpcFault, copy_id, read};

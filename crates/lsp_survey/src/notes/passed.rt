@@ -1,10 +1,8 @@
 //! Which requests were skipped, so that a response to one of them meets no open request.
 ghost use Rattle.std.specs.Prelude.{◌≡◌, OnOk, Some, false, option_map, true};
-ghost use Rattle.lsp_rpc.specs.Ident.{id_view};
-ghost use Rattle.lsp_rpc.specs.Message.{Reply, response};
-ghost use Rattle.lsp_rpc.specs.View.{message_view};
+ghost use Rattle.lsp_replay.specs.Common.{id_view, message_view, other_side, response, response_id};
+ghost use Rattle.lsp_rpc.specs.Message.{Reply};
 ghost use Rattle.lsp_rpc.specs.declared.message.Id.{Id as AnId};
-ghost use Rattle.lsp_session.specs.Sent.{other_side, response_id};
 ghost use Rattle.lsp_survey.specs.Notes.{Passes, SetsRequest, SetsAny, has_any, has_passed};
 ghost use Rattle.lsp_types.specs.declared.side.Side.{Side as ASide};
 

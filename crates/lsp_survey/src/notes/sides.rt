@@ -1,11 +1,10 @@
 //! What is noted of the bytes of both sides.
 ghost use Rattle.std.specs.Prelude.{◌≡◌, ◌&&◌, [], false, nat_le};
-ghost use Rattle.lsp_rpc.specs.View.{message_view};
-ghost use Rattle.lsp_session.specs.Sent.{other_side};
+ghost use Rattle.lsp_replay.specs.Common.{is_nameless, is_within, message_view, other_side};
+ghost use Rattle.lsp_replay.specs.Common.{wants_other};
 ghost use Rattle.lsp_survey.specs.Notes.{failed_on, read_on, side_in, sides_failed, sides_of};
 ghost use Rattle.lsp_survey.specs.Notes.{answers_noted, message_follows, sides_read};
 ghost use Rattle.lsp_types.specs.declared.rules.TheConstants as rules;
-ghost use Rattle.lsp_verdict.specs.Offences.{is_nameless, is_within, wants_other};
 
 use crate::notes::rules::wants_other;
 use lsp_rpc::{Answer, Message, Side};

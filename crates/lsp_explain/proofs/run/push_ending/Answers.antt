@@ -1,7 +1,6 @@
 use Rattle.std.specs.Prelude.{map, slice_get}
 use Rattle.std.proofs.Common.{◌∙◌, [], ap, sym}
-use Rattle.lsp_verdict.specs.Given.{offence_view}
-use Rattle.lsp_verdict.specs.Heard.{heard_events}
+use Rattle.lsp_trail.specs.Common.{heard_events, offence_view}
 use Rattle.lsp_explain.proofs.Ending.{ending_none, ending_some, first_none, first_some}
 use Rattle.lsp_origins.proofs.Telling.{stands_at}
 use Rattle.lsp_explain.proofs.run.push_ending.Goals as goal

@@ -5,10 +5,8 @@ use Rattle.std.proofs.lemmas.List.{take_all}
 use Rattle.std.proofs.lemmas.Option.{slice_get-get_or}
 use Rattle.lsp_survey.specs.Reported.{IsTally}
 use Rattle.lsp_survey.proofs.Reporting.{tally_more}
-use Rattle.lsp_verdict.specs.Given.{offence_view}
-use Rattle.lsp_trail.specs.Asking.{numbered}
+use Rattle.lsp_trail.specs.Common.{numbered, offence_view, terms_in}
 use Rattle.lsp_origins.specs.Explained.{cause_lines, end_explained, rests_held}
-use Rattle.lsp_trail.specs.Trails.{terms_in}
 use Rattle.lsp_explain.proofs.Ending.{ends_more}
 use Rattle.lsp_explain.proofs.run_all.explain_ends.Goals as goal
 

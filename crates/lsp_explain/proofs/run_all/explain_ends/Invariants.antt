@@ -2,12 +2,8 @@ use Rattle.std.specs.List.{flat_map}
 use Rattle.std.specs.Prelude.{take}
 use Rattle.std.proofs.Common.{◌≡◌, ◌++◌, List, map, string_bytes}
 use Rattle.lsp_survey.specs.Reported.{IsTally}
-use Rattle.lsp_verdict.specs.Event.{Event}
-use Rattle.lsp_verdict.specs.Given.{offence_view}
-use Rattle.lsp_verdict.specs.Offences.{Offence}
-use Rattle.lsp_trail.specs.Asking.{numbered}
+use Rattle.lsp_trail.specs.Common.{Event, numbered, Offence, offence_view, StandsAfter, terms_in}
 use Rattle.lsp_origins.specs.Explained.{cause_lines, end_explained, rests_held}
-use Rattle.lsp_trail.specs.Trails.{StandsAfter, terms_in}
 use Rattle.lsp_explain.proofs.run_all.explain_ends.Given as goal
 
 abbrev pub invariant-loop-offence : goal.invariant-loop-offence

@@ -1,6 +1,5 @@
 use Rattle.std.proofs.Common.{◌≡◌, ◌<◌, ℕ}
-use Rattle.lsp_frame.specs.Bounds.{Bounds}
-use Rattle.lsp_frame.specs.Told.{Told}
+use Rattle.lsp_replay.specs.Common.{Bounds, Told}
 use Rattle.lsp_extract.specs.Event.{HasPassed}
 use Rattle.lsp_extract.proofs.event.write_nth.Given as goal
 

@@ -1,8 +1,7 @@
 use Rattle.std.proofs.Common.{subst}
 use Rattle.std.proofs.lemmas.Result.{err_from_is_err_and}
-use Rattle.lsp_frame.specs.Sink.{Wrote, Stopped}
-use Rattle.lsp_frame.specs.declared.format.Format.{Format}
-use Rattle.lsp_log.specs.Log.{first_line}
+use Rattle.lsp_frame.specs.Sink.{Wrote}
+use Rattle.lsp_replay.specs.Common.{first_line, Format, Stopped}
 use Rattle.lsp_verdict.proofs.Outcomes.{judged_by}
 use Rattle.lsp_extract.proofs.Forming.Logs.{head_cut, none_read}
 use Rattle.lsp_extract.proofs.normal.run_normal.Goals as goal

@@ -1,6 +1,5 @@
 use Rattle.std.proofs.Common.{◌+◌, ◌-◌}
-use Rattle.lsp_frame.specs.Told.{Told}
-use Rattle.lsp_replay.specs.LogEvents.{Opens}
+use Rattle.lsp_replay.specs.Common.{Opens, Told}
 use Rattle.lsp_extract.proofs.Forming.Logs.{EventsSoFar}
 use Rattle.lsp_extract.proofs.normal.write_events.Given as goal
 

@@ -1,9 +1,7 @@
 use Rattle.std.proofs.Common.{◌≡◌, ℕ, List, ◌∷◌, [], ◌++◌, ap, ◌∙◌}
 use Rattle.std.specs.Prelude.{codes}
 use Rattle.json.specs.Print.{quoted}
-use Rattle.lsp_docs.specs.Calls.{uri_of}
-use Rattle.lsp_docs.specs.Documents.{held}
-use Rattle.lsp_docs.specs.Taken.{call_view}
+use Rattle.lsp_replay.specs.Common.{call_view, held, uri_of}
 use Rattle.lsp_verdict.specs.Report.{line}
 use Rattle.lsp_facts.specs.DocumentFacts.{head_facts, held_fact, sent_facts}
 use Rattle.lsp_facts.proofs.documents.call_facts.Goals as goal

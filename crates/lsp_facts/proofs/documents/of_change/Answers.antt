@@ -1,10 +1,8 @@
 use Rattle.std.proofs.Common.{◌≡◌, ◌∙◌, ℕ, Err, ap, inl, inr, subst}
 use Rattle.std.proofs.lemmas.Result.{IfOk-weaker}
 use Rattle.std.specs.Str.{chars}
-use Rattle.lsp_text.specs.Edits.{changed}
-use Rattle.lsp_text.specs.Changes.{edit_of, edits_of}
-use Rattle.lsp_docs.specs.Documents.{held}
-use Rattle.lsp_docs.specs.Snapshots.{kept, waiting, versions_of}
+use Rattle.lsp_replay.specs.Common.{changed, edit_of, edits_of, held, versions_of, waiting}
+use Rattle.lsp_docs.specs.Snapshots.{kept}
 use Rattle.lsp_docs.specs.Calls.{Text}
 use Rattle.lsp_facts.specs.DocumentFacts.{kind_facts, IsRefused}
 use Rattle.lsp_facts.proofs.MadeChanges.{here_at, all_seen, tried_there}

@@ -2,9 +2,7 @@ use Rattle.std.proofs.Common.{ap, w32, rules}
 use Rattle.std.proofs.lemmas.Int.{to_z-of_z}
 use Rattle.std.specs.Option.{option_map}
 use mir.Val.{SFits}
-use Rattle.lsp_text.specs.Changes.{edits_of}
-use Rattle.lsp_docs.specs.Documents.{held, versioned}
-use Rattle.lsp_docs.specs.Snapshots.{waiting, versions_of}
+use Rattle.lsp_replay.specs.Common.{edits_of, held, versioned, versions_of, waiting}
 use Rattle.lsp_facts.proofs.DocumentRules.{tried_change}
 use Rattle.lsp_facts.proofs.made.brings.Goals as goal
 

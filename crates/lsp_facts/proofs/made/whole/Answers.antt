@@ -1,6 +1,5 @@
 use Rattle.std.proofs.Common.{◌<◌, length, arith}
-use Rattle.lsp_docs.specs.Documents.{held}
-use Rattle.lsp_text.specs.Changes.{edits_of}
+use Rattle.lsp_replay.specs.Common.{edits_of, held}
 use Rattle.lsp_facts.proofs.MadeChanges.{all_seen, seen_length, tried_there}
 use Rattle.lsp_facts.proofs.OtherTexts.{all_make, none_held, one_fails}
 use Rattle.lsp_facts.proofs.made.whole.Goals as goal

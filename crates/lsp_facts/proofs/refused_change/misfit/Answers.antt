@@ -1,7 +1,6 @@
 use Rattle.std.proofs.Common.{[], ◌∷◌, ◌++◌, Some, ap, sym, ◌∙◌}
 use Rattle.std.specs.Prelude.{codes, slice_get}
-use Rattle.lsp_text.specs.Changes.{edits_of}
-use Rattle.lsp_types.specs.declared.change.SyncKind.{SyncKind}
+use Rattle.lsp_replay.specs.Common.{edits_of, SyncKind}
 use Rattle.lsp_verdict.specs.Report.{line, kind_name}
 use Rattle.lsp_facts.specs.Fact.{Fact}
 use Rattle.lsp_facts.specs.DocumentFacts.{misfit_facts}

@@ -3,8 +3,7 @@ use Rattle.std.proofs.lemmas.Int.{to_z-of_z}
 use Rattle.std.specs.Prelude.{option_and_then}
 use Rattle.std.specs.Str.{chars}
 use mir.Val.{SFits}
-use Rattle.lsp_docs.specs.Taken.{call_view}
-use Rattle.lsp_docs.specs.Calls.{uri_of}
+use Rattle.lsp_replay.specs.Common.{call_view, uri_of}
 use Rattle.lsp_facts.specs.TwoTexts.{against, brought_view, recorded}
 use Rattle.lsp_facts.proofs.DocumentRules.{not_this, shown_other}
 use Rattle.lsp_facts.proofs.OtherTexts.{by_brought}

@@ -1,10 +1,8 @@
 use Rattle.std.specs.Prelude.{option_and_then, option_map}
 use Rattle.std.proofs.Common.{◌≡◌, ◌∙◌, Bor, Some, ap, subst, sym}
-use Rattle.lsp_docs.specs.Taken.{call_view}
+use Rattle.lsp_replay.specs.Common.{call_at, call_view, calls, Counted, made_in}
 use Rattle.lsp_docs.specs.declared.tried.Tried.{Tried}
-use Rattle.lsp_replay.specs.Tries.{IsTriedOf, made_in}
-use Rattle.lsp_lined.specs.Counted.{Counted}
-use Rattle.lsp_verdict.specs.Event.{call_at, calls}
+use Rattle.lsp_replay.specs.Tries.{IsTriedOf}
 use Rattle.lsp_facts.specs.TwoTexts.{texts_of}
 use Rattle.lsp_facts.proofs.CallBreaks.{call_breaks, is_on_documents}
 use Rattle.lsp_facts.proofs.two_texts.texts_at.Goals as goal

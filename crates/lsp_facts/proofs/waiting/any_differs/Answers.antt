@@ -1,7 +1,6 @@
 use Rattle.std.proofs.Common.{sym, ap, ◌∙◌}
 use Rattle.std.specs.Prelude.{not}
-use Rattle.lsp_text.specs.SameText.{same_text}
-use Rattle.lsp_docs.specs.Stored.{are_mixed, text_of, texts_of}
+use Rattle.lsp_replay.specs.Common.{are_mixed, same_text, text_of, texts_of}
 use Rattle.lsp_docs.proofs.Words.{any-map}
 use Rattle.lsp_facts.proofs.waiting.any_differs.Goals as goal
 

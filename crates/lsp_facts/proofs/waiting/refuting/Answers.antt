@@ -1,9 +1,7 @@
 use Rattle.std.proofs.Common.{List, ℕ, Some, None, ap, refl, ◌∙◌, w32, rules}
 use Rattle.std.proofs.lemmas.Int.{to_z-of_z}
 use mir.Val.{SFits}
-use Rattle.lsp_docs.specs.Calls.{uri_of}
-use Rattle.lsp_docs.specs.Documents.{versioned}
-use Rattle.lsp_docs.specs.Taken.{call_view}
+use Rattle.lsp_replay.specs.Common.{call_view, uri_of, versioned}
 use Rattle.lsp_facts.specs.Refuting.{waiting_texts}
 use Rattle.lsp_facts.specs.TwoTexts.{lent_text}
 use Rattle.lsp_facts.proofs.OtherTexts.{compared_brought, others_as, refuting_brought}

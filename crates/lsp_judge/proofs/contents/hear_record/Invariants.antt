@@ -1,10 +1,7 @@
 use Rattle.std.proofs.Common.{List, [], ◌∷◌, ◌++◌}
-use Rattle.lsp_frame.specs.Bounds.{Bounds}
-use Rattle.lsp_frame.specs.declared.format.Format.{Format}
+use Rattle.lsp_replay.specs.Common.{Bounds, Event, Format, record_view}
 use Rattle.lsp_log.specs.Log.{Record}
-use Rattle.lsp_log.specs.Records.{record_view}
 use Rattle.lsp_replay.specs.Streams.{left_in}
-use Rattle.lsp_verdict.specs.Event.{Event}
 use Rattle.lsp_verdict.specs.Placed.{Raw}
 use Rattle.lsp_judge.specs.Standing.{AreHeard, IsHearing}
 use Rattle.lsp_judge.proofs.contents.hear_record.Given as goal

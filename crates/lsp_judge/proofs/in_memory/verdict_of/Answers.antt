@@ -1,7 +1,5 @@
 use Rattle.std.proofs.Common.{Ok, ap, ◌∙◌}
-use Rattle.lsp_frame.specs.Told.{Told}
-use Rattle.lsp_verdict.specs.Given.{verdict_view}
-use Rattle.lsp_verdict.specs.Outcome.{IsVerdict}
+use Rattle.lsp_replay.specs.Common.{IsVerdict, Told, verdict_view}
 use Rattle.lsp_judge.proofs.InMemory.{of_memory}
 use Rattle.lsp_judge.proofs.in_memory.verdict_of.Goals as goal
 

@@ -2,12 +2,10 @@ use Rattle.std.proofs.Common.{[], ◌∷◌, ◌++◌, refl, sym, ap, subst, ◌
 use Rattle.std.proofs.lemmas.Result.{err_from_is_err_and}
 use Rattle.lsp_frame.specs.Bounds.{profile}
 use Rattle.lsp_frame.specs.Sink.{Wrote}
-use Rattle.lsp_frame.specs.Told.{after_failure}
+use Rattle.lsp_replay.specs.Common.{after_failure, record_view, terms_of}
 use Rattle.lsp_frame.proofs.Telling.{took_then}
 use Rattle.lsp_frame.proofs.Writing.{wrote_then}
 use Rattle.lsp_log.specs.Log.{Fits}
-use Rattle.lsp_log.specs.Records.{record_view}
-use Rattle.lsp_docs.specs.Documents.{terms_of}
 use Rattle.lsp_replay.specs.LogEvents.{flaw_of}
 use Rattle.lsp_replay.proofs.Pulling.{known_record, refused_record}
 use Rattle.lsp_verdict.proofs.Entries.{is_first, record_fits}

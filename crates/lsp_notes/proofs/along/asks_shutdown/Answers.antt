@@ -1,9 +1,7 @@
 use Rattle.std.specs.Borrow.{Bor}
 use Rattle.std.specs.Prelude.{option_map}
 use Rattle.std.proofs.Common.{Option, ◌∙◌, ap, subst, sym}
-use Rattle.lsp_replay.specs.Telling.{MaySpeak}
-use Rattle.lsp_rpc.specs.declared.act.Spoken.{Spoken}
-use Rattle.lsp_session.specs.Sent.{is_shutdown}
+use Rattle.lsp_trail.specs.Common.{is_shutdown, MaySpeak, Spoken}
 use Rattle.lsp_notes.specs.AllNotes as spec
 use Rattle.lsp_notes.proofs.NotedSteps.{asks_none}
 use Rattle.lsp_notes.proofs.along.asks_shutdown.Goals as goal

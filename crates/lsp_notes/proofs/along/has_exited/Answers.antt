@@ -1,6 +1,5 @@
 use Rattle.std.proofs.Common.{◌∙◌, ap}
-use Rattle.lsp_session.specs.declared.phase.Phase.TheVariants.{Exited}
-use Rattle.lsp_trail.specs.Asking.{same_phase}
+use Rattle.lsp_trail.specs.Common.{Exited, same_phase}
 use Rattle.lsp_notes.proofs.along.has_exited.Goals as goal
 
 pub returns : goal.returns

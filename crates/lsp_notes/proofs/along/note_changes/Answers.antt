@@ -1,8 +1,7 @@
 use Rattle.std.specs.Prelude.{option_map}
 use Rattle.std.proofs.Common.{◌++◌, ◌∙◌, ap, append-nil, subst, sym}
 use Rattle.std.proofs.lemmas.Result.{on_ok_weaker}
-use Rattle.lsp_docs.specs.Taken.{call_view}
-use Rattle.lsp_replay.specs.Telling.{HasFate}
+use Rattle.lsp_trail.specs.Common.{call_view, HasFate}
 use Rattle.lsp_notes.specs.Behind.{is_on_behind}
 use Rattle.lsp_notes.specs.Misfits.{AreMisfits}
 use Rattle.lsp_notes.proofs.BehindSteps.{among_is}

@@ -1,6 +1,5 @@
 use Rattle.std.proofs.Common.{subst}
-use Rattle.lsp_replay.specs.Telling.{HasFate, kept_before}
-use Rattle.lsp_verdict.specs.Event.{sent_in}
+use Rattle.lsp_trail.specs.Common.{HasFate, kept_before, sent_in}
 use Rattle.lsp_notes.proofs.BehindSteps.{held_before}
 use Rattle.lsp_notes.proofs.NotedSteps.{kept_refuses, offends_refuses}
 use Rattle.lsp_replay.proofs.AllHeard.{kept_seen}

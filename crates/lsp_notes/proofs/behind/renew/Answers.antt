@@ -1,7 +1,6 @@
 use Rattle.std.specs.Prelude.{if◌then◌else◌, option_map}
 use Rattle.std.proofs.Common.{◌∙◌, Bool, None, Some, ap, false, refl, subst, sym}
-use Rattle.lsp_docs.specs.Calls.{uri_of}
-use Rattle.lsp_docs.specs.Taken.{call_view}
+use Rattle.lsp_trail.specs.Common.{call_view, uri_of}
 use Rattle.lsp_notes.specs.Behind.{PutsBehind, renewed}
 use Rattle.lsp_notes.proofs.BehindSteps.{put_one}
 use Rattle.lsp_notes.proofs.behind.renew.Goals as goal

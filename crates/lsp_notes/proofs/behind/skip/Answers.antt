@@ -1,10 +1,7 @@
 use Rattle.std.specs.Prelude.{if◌then◌else◌, option_map}
 use Rattle.std.proofs.Common.{◌∙◌, Bool, None, Some, ap, refl, subst, sym, true}
 use Rattle.std.proofs.lemmas.Result.{on_ok_weaker}
-use Rattle.lsp_docs.specs.Calls.{uri_of}
-use Rattle.lsp_docs.specs.Taken.{call_view}
-use Rattle.lsp_verdict.specs.Given.{raw_view}
-use Rattle.lsp_verdict.specs.Offences.{is_reopened}
+use Rattle.lsp_trail.specs.Common.{call_view, is_reopened, raw_view, uri_of}
 use Rattle.lsp_notes.specs.Behind.{PutsBehind, parts, skipped}
 use Rattle.lsp_notes.proofs.BehindSteps.{put_one}
 use Rattle.lsp_notes.proofs.behind.skip.Goals as goal

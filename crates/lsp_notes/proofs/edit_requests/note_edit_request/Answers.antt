@@ -2,10 +2,7 @@ use Rattle.std.specs.List.{cons_option}
 use Rattle.std.specs.Prelude.{option_map, string_bytes}
 use Rattle.std.proofs.Common.{[], ◌∙◌, ap, subst, sym}
 use Rattle.std.proofs.lemmas.Result.{on_ok_weaker}
-use Rattle.lsp_outline.specs.Versions.{Versioned, version_view}
-use Rattle.lsp_rpc.specs.Ident.{id_view}
-use Rattle.lsp_rpc.specs.Outline.{outline}
-use Rattle.lsp_rpc.specs.View.{message_view}
+use Rattle.lsp_trail.specs.Common.{id_view, message_view, outline, version_view, Versioned}
 use Rattle.lsp_notes.specs.EditRequests.{is_formatting, is_rename, most_requests}
 use Rattle.lsp_notes.specs.Requests.{Holds, request_view}
 use Rattle.lsp_notes.proofs.EditsByKind.{asks_edits, asks_format, asks_nothing, asks_other}

@@ -1,10 +1,7 @@
 use Rattle.std.specs.Prelude.{option_map, string_bytes}
 use Rattle.std.proofs.Common.{◌∙◌, ap, sym}
 use Rattle.std.proofs.lemmas.Result.{IfOk-weaker}
-use Rattle.lsp_rpc.specs.Ident.{id_view}
-use Rattle.lsp_rpc.specs.Outline.{outline}
-use Rattle.lsp_rpc.specs.View.{message_view}
-use Rattle.lsp_trail.specs.Naming.{params_of}
+use Rattle.lsp_trail.specs.Common.{id_view, message_view, outline, params_of}
 use Rattle.lsp_notes.specs.ServerEdits.{in_diagnostics, in_request, uris_with}
 use Rattle.lsp_notes.proofs.EditedMessages.{responds}
 use Rattle.lsp_notes.proofs.EditsByKind.{has_answer, has_notification, has_request, is_request_so}

@@ -2,9 +2,8 @@ use Rattle.std.specs.Prelude.{map}
 use Rattle.std.proofs.Common.{◌≡◌, ◌∙◌, ap, subst, sym}
 use Rattle.std.proofs.lemmas.Result.{IfOk-weaker}
 use Rattle.lsp_rpc.specs.Reading.{BreaksRule, IsRefusal}
-use Rattle.lsp_rpc.specs.View.{message_view}
+use Rattle.lsp_trail.specs.Common.{message_view, params_of}
 use Rattle.lsp_verdict.proofs.Below.{not_both, one_message}
-use Rattle.lsp_trail.specs.Naming.{params_of}
 use Rattle.lsp_notes.specs.ServerEdits.{edit_in, edited_view, in_edit, uris_with}
 use Rattle.lsp_notes.proofs.EditedMessages.{edits_asked_for, no_edits_asked}
 use Rattle.lsp_notes.proofs.EditsByKind.{edit_of_request}

@@ -1,8 +1,7 @@
 use Rattle.std.specs.Prelude.{map}
 use Rattle.std.proofs.Common.{◌≡◌, ◌++◌, List, length}
 use Rattle.serde_json.specs.View.{view}
-use Rattle.lsp_docs.specs.Calls.{Call}
-use Rattle.lsp_docs.specs.State.{Stands}
+use Rattle.lsp_trail.specs.Common.{Call, Stands}
 use Rattle.lsp_notes.specs.ServerEdits.{edited_in, edited_view, open_uris}
 use Rattle.lsp_notes.proofs.edited.in_workspace.Given as goal
 

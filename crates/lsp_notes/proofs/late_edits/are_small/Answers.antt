@@ -1,6 +1,5 @@
 use Rattle.std.proofs.Common.{◌∙◌}
-use Rattle.lsp_text.specs.Changes.{edits_of}
-use Rattle.lsp_trail.specs.SentEdits.{edits_size}
+use Rattle.lsp_trail.specs.Common.{edits_of, edits_size}
 use Rattle.lsp_notes.proofs.EditedTexts.{small_edits}
 use Rattle.lsp_notes.proofs.late_edits.are_small.Goals as goal
 

@@ -2,10 +2,7 @@ use Rattle.std.specs.Prelude.{option_map}
 use Rattle.std.proofs.Common.{◌∙◌, ap, rules, sym, w32}
 use Rattle.std.proofs.lemmas.Int.{to_z-of_z}
 use mir.Val.{SFits}
-use Rattle.lsp_docs.specs.Documents.{held}
-use Rattle.lsp_docs.specs.Rules.{text_at}
-use Rattle.lsp_docs.specs.Snapshots.{kept}
-use Rattle.lsp_text.specs.Changes.{edits_of}
+use Rattle.lsp_trail.specs.Common.{edits_of, held, kept, text_at}
 use Rattle.lsp_notes.proofs.LateSteps.{made_newer, made_not, no_older}
 use Rattle.lsp_notes.proofs.late_edits.made_late.Goals as goal
 

@@ -1,9 +1,7 @@
 use Rattle.std.proofs.Common.{◌∙◌, ap, rules, sym, w32}
 use Rattle.std.proofs.lemmas.Int.{to_z-of_z}
 use mir.Val.{SFits}
-use Rattle.lsp_docs.specs.Documents.{held}
-use Rattle.lsp_docs.specs.Snapshots.{kept}
-use Rattle.lsp_text.specs.Changes.{edits_of}
+use Rattle.lsp_trail.specs.Common.{edits_of, held, kept}
 use Rattle.lsp_notes.specs.LateEdits.{late_view, made_late}
 use Rattle.lsp_notes.proofs.LateSteps.{words_not, words_so, words_unknown}
 use Rattle.lsp_notes.proofs.late_edits.words_if_late.Goals as goal

@@ -1,8 +1,7 @@
 use Rattle.std.proofs.Common.{◌∙◌}
 use Rattle.std.proofs.lemmas.Result.{IfOk-weaker}
-use Rattle.lsp_docs.specs.Documents.{held}
+use Rattle.lsp_trail.specs.Common.{edits_of, held}
 use Rattle.lsp_docs.specs.Snapshots.{versions_of, waiting}
-use Rattle.lsp_text.specs.Changes.{edits_of}
 use Rattle.lsp_notes.proofs.Misfitting.{finds_nothing, found_there, found_unheld}
 use Rattle.lsp_notes.proofs.misfits.found_by.Goals as goal
 

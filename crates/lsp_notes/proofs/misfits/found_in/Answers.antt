@@ -1,7 +1,6 @@
 use Rattle.std.proofs.Common.{◌∙◌, List, ℕ, ap, subst, sym}
-use Rattle.lsp_text.specs.Changes.{edits_of}
-use Rattle.lsp_text.specs.Edits.{IsFaultOf, applied}
-use Rattle.lsp_text.specs.Findings.{findings}
+use Rattle.lsp_trail.specs.Common.{applied, edits_of, findings}
+use Rattle.lsp_text.specs.Edits.{IsFaultOf}
 use Rattle.lsp_types.specs.declared.fault.Fault.{Fault}
 use Rattle.lsp_notes.proofs.misfits.found_in.Goals as goal
 

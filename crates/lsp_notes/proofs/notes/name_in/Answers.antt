@@ -1,11 +1,7 @@
 use Rattle.std.proofs.Common.{List, sym, ap, ◌∙◌}
-use Rattle.lsp_session.specs.Negotiation.{encoding}
-use Rattle.lsp_session.specs.Sent.{Sent}
+use Rattle.lsp_trail.specs.Common.{encoding, kept_of, Sent, sent_in, terms_in}
 use Rattle.lsp_trail.proofs.SessionSteps.{sents-numbered}
-use Rattle.lsp_verdict.specs.Event.{sent_in}
-use Rattle.lsp_verdict.specs.Offences.{kept_of}
 use Rattle.lsp_notes.specs.Notes.{other_name}
-use Rattle.lsp_trail.specs.Trails.{terms_in}
 use Rattle.lsp_notes.proofs.notes.name_in.Goals as goal
 
 pub returns : goal.returns

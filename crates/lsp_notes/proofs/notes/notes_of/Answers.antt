@@ -1,13 +1,10 @@
 use Rattle.std.specs.Prelude.{map, option_map}
 use Rattle.std.proofs.Common.{List, ◌++◌, ap, ◌∙◌}
-use Rattle.lsp_trail.specs.SessionNotes.{misused_views}
-use Rattle.lsp_trail.specs.Openings.{names_view, on_view}
-use Rattle.lsp_verdict.specs.Given.{verdict_view}
+use Rattle.lsp_trail.specs.Common.{misused_views, names_view, on_view, terms_in, verdict_view}
 use Rattle.lsp_notes.specs.DocumentNotes.{document_line, notes_view}
 use Rattle.lsp_notes.specs.declared.document_notes.DocumentNote as code
 use Rattle.lsp_facts.specs.Fact.{Fact}
 use Rattle.lsp_notes.specs.Notes.{exit_notes, misuse_line, name_notes, old_name_notes, uncompared}
-use Rattle.lsp_trail.specs.Trails.{terms_in}
 use Rattle.lsp_notes.proofs.notes.notes_of.Goals as goal
 
 pub returns : goal.returns

@@ -2,9 +2,8 @@ use Rattle.std.specs.Prelude.{length}
 use Rattle.std.proofs.Common.{◌++◌, ap, ◌∙◌, append_assoc, string_bytes}
 use Rattle.std.proofs.lemmas.Result.{on_ok_weaker}
 use Rattle.lsp_facts.specs.Fact.{fact_lines}
-use Rattle.lsp_verdict.specs.Given.{verdict_view}
+use Rattle.lsp_trail.specs.Common.{terms_in, verdict_view}
 use Rattle.lsp_notes.specs.Notes.{count_line, note_lines, notes_by, noticed, with_exit, with_server}
-use Rattle.lsp_trail.specs.Trails.{terms_in}
 use Rattle.lsp_notes.proofs.notes.push_notes.Goals as goal
 
 pub returns : goal.returns

@@ -2,9 +2,8 @@ use Rattle.std.specs.Prelude.{codes, option_map}
 use Rattle.std.proofs.Common.{◌++◌, ◌∷◌, [], List, ℕ, Option, Bor, sym, ap, ◌∙◌}
 use Rattle.std.proofs.lemmas.Result.{on_ok_weaker}
 use Rattle.json.specs.Print.{quoted}
-use Rattle.lsp_trail.specs.Openings.{on_view}
+use Rattle.lsp_trail.specs.Common.{line, on_view}
 use Rattle.lsp_trail.specs.declared.openings.DocumentEvent.{DocumentEvent}
-use Rattle.lsp_verdict.specs.Report.{line}
 use Rattle.lsp_facts.specs.Fact.{place_words}
 use Rattle.lsp_notes.specs.Notes.{old_name_notes}
 use Rattle.lsp_notes.proofs.notes.push_renamed.Goals as goal

@@ -1,7 +1,6 @@
 use Rattle.std.specs.Prelude.{unwrap_or}
 use Rattle.std.proofs.Common.{◌∙◌, ap}
-use Rattle.lsp_types.specs.declared.position.Encoding.TheVariants.{Utf16}
-use Rattle.lsp_verdict.specs.Event.{sent_in}
+use Rattle.lsp_trail.specs.Common.{sent_in, Utf16}
 use Rattle.lsp_notes.specs.ServerEdits.{kept_with}
 use Rattle.lsp_notes.proofs.server_edits.now_at.Goals as goal
 

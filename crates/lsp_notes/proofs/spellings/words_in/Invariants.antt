@@ -1,7 +1,6 @@
 use Rattle.std.specs.List.{find}
 use Rattle.std.proofs.Common.{◌≡◌, List, drop}
-use Rattle.lsp_verdict.specs.Event.{Event}
-use Rattle.lsp_trail.specs.Openings.{ons_view}
+use Rattle.lsp_trail.specs.Common.{Event, ons_view}
 use Rattle.lsp_notes.specs.Spellings.{IsSought, is_sought}
 use Rattle.lsp_notes.proofs.spellings.words_in.Given as goal
 

@@ -3,9 +3,7 @@ use Rattle.std.specs.List.{find}
 use Rattle.std.specs.Option.{option_or}
 use Rattle.std.proofs.Common.{◌∙◌, ap, sym}
 use Rattle.std.proofs.lemmas.List.{map-append}
-use Rattle.lsp_trail.specs.History.{OnDocument}
-use Rattle.lsp_trail.specs.Openings.{on_view, ons_view}
-use Rattle.lsp_trail.specs.Spelled.{last_openings}
+use Rattle.lsp_trail.specs.Common.{last_openings, on_view, OnDocument, ons_view}
 use Rattle.lsp_notes.specs.Spellings.{IsSought, is_other, similar_words}
 use Rattle.lsp_notes.proofs.OtherSpellings.{made_in_parts, of_either}
 use Rattle.lsp_notes.proofs.spellings.words_on.Goals as goal

@@ -1,7 +1,6 @@
 use Rattle.std.proofs.Common.{◌≡◌, ◌++◌, option_map, drop}
 use Rattle.serde_json.specs.View.{items_view}
-use Rattle.lsp_rpc.specs.Params.{all_of}
-use Rattle.lsp_text.specs.Changes.{edits_of}
+use Rattle.lsp_trail.specs.Common.{all_of, edits_of}
 use Rattle.lsp_notes.specs.TextEdits.{text_edit_at}
 use Rattle.lsp_notes.proofs.text_edits.each_edit.Given as goal
 

@@ -2,9 +2,7 @@ use Rattle.std.specs.Prelude.{if◌then◌else◌, not}
 use Rattle.std.proofs.Common.{◌++◌, ◌∷◌, ◌∙◌, [], Bool, ap, rules, sym, w32}
 use Rattle.std.proofs.lemmas.Int.{to_z-of_z}
 use mir.Val.{SFits}
-use Rattle.lsp_docs.specs.Documents.{held}
-use Rattle.lsp_docs.specs.Rules.{text_at}
-use Rattle.lsp_docs.specs.Snapshots.{kept}
+use Rattle.lsp_trail.specs.Common.{held, kept, text_at}
 use Rattle.lsp_notes.specs.TextsSince.{contents, texts_at}
 use Rattle.lsp_notes.proofs.EditedTexts.{text_more}
 use Rattle.lsp_notes.proofs.texts_since.push_text.Goals as goal

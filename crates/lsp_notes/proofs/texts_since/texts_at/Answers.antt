@@ -3,8 +3,7 @@ use Rattle.std.proofs.Common.{◌++◌, ◌∙◌, append-nil, ap, pos, rules, s
 use Rattle.std.proofs.lemmas.Int.{to_z-of_z}
 use Rattle.std.proofs.lemmas.List.{drop_all}
 use mir.Val.{SFits}
-use Rattle.lsp_docs.specs.Documents.{held}
-use Rattle.lsp_docs.specs.Snapshots.{kept}
+use Rattle.lsp_trail.specs.Common.{held, kept}
 use Rattle.lsp_notes.specs.TextsSince.{contents, not_below, texts_at}
 use Rattle.lsp_notes.proofs.EditedTexts.{get_or_any, texts_next}
 use Rattle.lsp_notes.proofs.texts_since.texts_at.Goals as goal

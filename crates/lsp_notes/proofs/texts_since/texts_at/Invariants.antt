@@ -1,8 +1,5 @@
 use Rattle.std.proofs.Common.{◌≡◌, ◌++◌, List, drop}
-use Rattle.lsp_docs.specs.Calls.{Call}
-use Rattle.lsp_docs.specs.Documents.{held}
-use Rattle.lsp_docs.specs.Snapshots.{kept}
-use Rattle.lsp_docs.specs.State.{Stands}
+use Rattle.lsp_trail.specs.Common.{Call, held, kept, Stands}
 use Rattle.lsp_notes.specs.TextsSince.{contents, not_below, texts_at}
 use Rattle.lsp_notes.proofs.texts_since.texts_at.Given as goal
 

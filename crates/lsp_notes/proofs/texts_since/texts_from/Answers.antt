@@ -1,8 +1,7 @@
 use Rattle.std.proofs.Common.{◌∙◌, Some, ap, rules, w32}
 use Rattle.std.proofs.lemmas.Int.{to_z-of_z}
 use mir.Val.{SFits}
-use Rattle.lsp_docs.specs.Documents.{held}
-use Rattle.lsp_docs.specs.Snapshots.{kept}
+use Rattle.lsp_trail.specs.Common.{held, kept}
 use Rattle.lsp_notes.specs.TextsSince.{not_below, texts_at}
 use Rattle.lsp_notes.proofs.EditedTexts.{known_texts, unknown_texts}
 use Rattle.lsp_notes.proofs.texts_since.texts_from.Goals as goal

@@ -3,8 +3,7 @@ use Rattle.std.proofs.Common.{◌∙◌, ap, rules, sym, w32}
 use Rattle.std.proofs.lemmas.Int.{to_z-of_z}
 use Rattle.std.proofs.lemmas.Result.{IfOk-weaker}
 use mir.Val.{SFits}
-use Rattle.lsp_docs.specs.Documents.{held}
-use Rattle.lsp_docs.specs.Snapshots.{kept}
+use Rattle.lsp_trail.specs.Common.{held, kept}
 use Rattle.lsp_notes.specs.TextsSince.{texts_in}
 use Rattle.lsp_notes.proofs.texts_since.texts_since.Goals as goal
 

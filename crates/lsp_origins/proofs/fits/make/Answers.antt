@@ -1,10 +1,8 @@
 use Rattle.std.specs.Prelude.{is_some}
 use Rattle.std.proofs.Common.{◌∙◌, ap, subst, sym}
 use Rattle.lsp_types.specs.declared.fault.Fault.{Fault}
-use Rattle.lsp_text.specs.Changes.{edits_of}
-use Rattle.lsp_text.specs.Edits.{IsFaultOf, applied}
-use Rattle.lsp_text.specs.Findings.{findings}
-use Rattle.lsp_text.specs.declared.findings.Findings.{Findings}
+use Rattle.lsp_trail.specs.Common.{applied, edits_of, Findings, findings}
+use Rattle.lsp_text.specs.Edits.{IsFaultOf}
 use Rattle.lsp_origins.proofs.Fitting.{made_not, made_ok}
 use Rattle.lsp_origins.proofs.fits.make.Goals as goal
 

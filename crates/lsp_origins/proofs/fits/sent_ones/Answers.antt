@@ -2,9 +2,8 @@ use Rattle.std.proofs.Common.{◌+◌, ◌++◌, ◌∷◌, ◌∙◌, append-ni
 use Rattle.std.proofs.lemmas.Int.{to_z-of_z}
 use Rattle.std.proofs.lemmas.List.{drop_all}
 use mir.Val.{SFits}
-use Rattle.lsp_text.specs.Changes.{edits_of}
+use Rattle.lsp_trail.specs.Common.{edits_of, sent_edits, sents_view}
 use Rattle.lsp_origins.specs.Fits.{suspects_view}
-use Rattle.lsp_trail.specs.SentEdits.{sent_edits, sents_view}
 use Rattle.lsp_origins.specs.declared.fits.Suspect.{Suspect}
 use Rattle.lsp_origins.proofs.Fitting.{one_listed, sents_from}
 use Rattle.lsp_origins.proofs.fits.sent_ones.Goals as goal

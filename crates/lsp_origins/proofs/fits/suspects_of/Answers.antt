@@ -2,12 +2,10 @@ use Rattle.std.specs.Prelude.{MatchOption}
 use Rattle.std.proofs.Common.{◌≡◌, ◌++◌, ◌∷◌, ◌∙◌, List, [], true, ap, rules, subst, sym, w32}
 use Rattle.std.proofs.lemmas.Int.{to_z-of_z}
 use mir.Val.{SFits}
-use Rattle.lsp_docs.specs.Taken.{call_view}
+use Rattle.lsp_trail.specs.Common.{are_few, call_view, edits_of, sent_edits, SentEdits, sents_view}
 use Rattle.lsp_docs.specs.declared.call.Call as code
-use Rattle.lsp_text.specs.Changes.{edits_of}
 use Rattle.lsp_trail.specs.Bases.{sent_in}
 use Rattle.lsp_origins.specs.Fits.{AreNamed, AreSuspects, reached, suspects_in}
-use Rattle.lsp_trail.specs.SentEdits.{SentEdits, are_few, sent_edits, sents_view}
 use Rattle.lsp_origins.proofs.Fitting.{own_none, reached_view, suspects_alone}
 use Rattle.lsp_origins.proofs.fits.suspects_of.Goals as goal
 

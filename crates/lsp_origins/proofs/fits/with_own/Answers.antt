@@ -1,9 +1,8 @@
 use Rattle.std.proofs.Common.{◌++◌, ◌∷◌, ◌∙◌, [], ap, arith, sym, w32}
 use Rattle.std.proofs.lemmas.Int.{to_z-of_z}
 use Rattle.std.proofs.lemmas.List.{length_push}
-use Rattle.lsp_text.specs.Changes.{edits_of}
+use Rattle.lsp_trail.specs.Common.{are_few, edits_of, sent_edits, sents_view}
 use Rattle.lsp_trail.specs.Bases.{sent_in}
-use Rattle.lsp_trail.specs.SentEdits.{are_few, sent_edits, sents_view}
 use Rattle.lsp_origins.proofs.Fitting.{are_named, large_named, many_named, not_empty, sents-length}
 use Rattle.lsp_origins.proofs.fits.with_own.Goals as goal
 

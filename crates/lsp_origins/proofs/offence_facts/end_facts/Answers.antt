@@ -1,10 +1,8 @@
 use Rattle.std.proofs.Common.{◌∙◌, ap, sym}
 use Rattle.std.proofs.lemmas.Result.{IfOk-weaker}
 use Rattle.lsp_facts.specs.EventFacts.{header_facts}
-use Rattle.lsp_verdict.specs.Verdict.{no}
-use Rattle.lsp_trail.specs.Asking.{numbered}
+use Rattle.lsp_trail.specs.Common.{no, numbered, terms_in}
 use Rattle.lsp_origins.specs.Explained.{end_facts}
-use Rattle.lsp_trail.specs.Trails.{terms_in}
 use Rattle.lsp_origins.proofs.offence_facts.end_facts.Goals as goal
 
 pub returns-then-rule-eq-STREAM_ENDS_INSIDE_FRAME :

@@ -1,14 +1,9 @@
 use Rattle.std.specs.Prelude.{chars, option_map}
 use Rattle.std.proofs.Common.{◌∙◌, Bor, subst, sym}
 use Rattle.std.proofs.lemmas.Result.{IfOk-weaker}
-use Rattle.lsp_docs.specs.declared.tried.Tried.{Tried}
+use Rattle.lsp_trail.specs.Common.{call_at, calls, content, Counted, Event, IsTriedOf, kept_of}
+use Rattle.lsp_trail.specs.Common.{made_in, show, terms_in, Tried}
 use Rattle.lsp_replay.proofs.Apart.{said_by}
-use Rattle.lsp_replay.specs.Tries.{IsTriedOf, made_in}
-use Rattle.lsp_lined.specs.Counted.{Counted}
-use Rattle.lsp_verdict.specs.Event.{Event, call_at, calls}
-use Rattle.lsp_verdict.specs.Offences.{kept_of}
-use Rattle.lsp_verdict.specs.Placed.{content, show}
-use Rattle.lsp_trail.specs.Trails.{terms_in}
 use Rattle.lsp_origins.proofs.SaidFacts.{call_said, frames_said, message_breaks}
 use Rattle.lsp_origins.proofs.SaidFacts.{message_said, shown_breaks, shown_said, unread_said}
 use Rattle.lsp_origins.proofs.offence_facts.facts_of.Goals as goal

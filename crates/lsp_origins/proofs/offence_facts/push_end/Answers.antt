@@ -1,13 +1,9 @@
 use Rattle.std.proofs.Common.{◌∙◌, ◌++◌, List, ℕ, ap, string_bytes, append_assoc}
 use Rattle.std.proofs.lemmas.Result.{on_ok_weaker}
-use Rattle.lsp_replay.specs.Streams.{decoder_of}
-use Rattle.lsp_trail.specs.Asking.{numbered}
-use Rattle.lsp_verdict.specs.Given.{offence_view}
-use Rattle.lsp_verdict.specs.Report.{report}
+use Rattle.lsp_trail.specs.Common.{decoder_of, numbered, offence_view, report, terms_in}
 use Rattle.lsp_facts.specs.Fact.{detail_lines, end_event}
 use Rattle.lsp_facts.specs.EventFacts.{side_by}
 use Rattle.lsp_origins.specs.Explained.{end_facts, end_usually, rests_held}
-use Rattle.lsp_trail.specs.Trails.{terms_in}
 use Rattle.lsp_origins.proofs.Telling.{held_rest}
 use Rattle.lsp_origins.proofs.offence_facts.push_end.Goals as goal
 

@@ -1,9 +1,7 @@
 use Rattle.std.specs.Prelude.{codes}
 use Rattle.std.proofs.Common.{◌∙◌, ◌++◌, ap, append-nil, string_bytes, sym}
 use Rattle.std.proofs.lemmas.Result.{on_ok_weaker}
-use Rattle.lsp_replay.specs.LogEvents.{flaw_of}
-use Rattle.lsp_replay.specs.declared.log_events.End.{End}
-use Rattle.lsp_verdict.specs.Verdict.{bad_log_of}
+use Rattle.lsp_trail.specs.Common.{bad_log_of, End, flaw_of}
 use Rattle.lsp_facts.specs.Fact.{detail_lines}
 use Rattle.lsp_facts.specs.EventFacts.{flaw_facts}
 use Rattle.lsp_origins.specs.Explained.{flaw_lines, flaw_held}

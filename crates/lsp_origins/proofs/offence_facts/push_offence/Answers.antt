@@ -1,14 +1,8 @@
 use Rattle.std.proofs.Common.{◌∙◌, ◌++◌, ap, string_bytes, subst, sym}
 use Rattle.std.proofs.lemmas.Result.{on_ok_weaker}
-use Rattle.lsp_docs.specs.Documents.{Terms}
-use Rattle.lsp_replay.specs.Telling.{HasFate, IsSeen, ShowsFault, kept_before}
-use Rattle.lsp_replay.specs.declared.seen.Fate.TheVariants.{Offends}
-use Rattle.lsp_verdict.specs.Heard.{heard_events}
-use Rattle.lsp_verdict.specs.Given.{raw_view}
-use Rattle.lsp_verdict.specs.Offences.{IsNoted}
-use Rattle.lsp_verdict.specs.Placed.{Raw}
+use Rattle.lsp_trail.specs.Common.{HasFate, heard_events, IsNoted, IsSeen, kept_before, Offends}
+use Rattle.lsp_trail.specs.Common.{Raw, raw_view, ShowsFault, Terms, terms_in}
 use Rattle.lsp_facts.specs.Fact.{detail_lines}
-use Rattle.lsp_trail.specs.Trails.{terms_in}
 use Rattle.lsp_origins.proofs.Telling.{few_before, placed_by, stands_before, tells_of}
 use Rattle.lsp_origins.proofs.offence_facts.push_offence.Goals as goal
 use Rattle.lsp_origins.specs.Explained.{TellsOf}

@@ -1,13 +1,8 @@
 use Rattle.std.specs.Prelude.{if◌then◌else◌, unwrap_or}
 use Rattle.std.proofs.Common.{[], ◌++◌, ◌∙◌, Bool, ap, sym}
 use Rattle.std.proofs.lemmas.Result.{on_ok_weaker}
-use Rattle.lsp_types.specs.declared.position.Encoding.TheVariants.{Utf16}
-use Rattle.lsp_session.specs.Negotiation.{encoding}
-use Rattle.lsp_verdict.specs.Event.{sent_in}
-use Rattle.lsp_verdict.specs.Offences.{kept_of}
+use Rattle.lsp_trail.specs.Common.{encoding, kept_of, older_encoding, sent_in, terms_in, Utf16}
 use Rattle.lsp_origins.specs.OlderEncoding.{older_facts}
-use Rattle.lsp_trail.specs.SessionNotes.{older_encoding}
-use Rattle.lsp_trail.specs.Trails.{terms_in}
 use Rattle.lsp_trail.proofs.SessionSteps.{sents-numbered}
 use Rattle.lsp_origins.proofs.older_encoding.trace_older.Goals as goal
 

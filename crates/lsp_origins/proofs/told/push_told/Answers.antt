@@ -4,21 +4,16 @@ use Rattle.std.proofs.Common.{◌++◌, ◌∙◌, Some, ap, rules, subst, sym, 
 use Rattle.std.proofs.lemmas.Int.{to_z-of_z}
 use Rattle.std.proofs.lemmas.Result.{on_ok_weaker}
 use mir.Val.{SFits}
-use Rattle.lsp_types.specs.declared.position.Encoding.TheVariants.{Utf16}
-use Rattle.lsp_docs.specs.Calls.{uri_of}
-use Rattle.lsp_docs.specs.Documents.{held}
-use Rattle.lsp_docs.specs.Snapshots.{kept, past}
-use Rattle.lsp_docs.specs.Taken.{call_view}
+use Rattle.lsp_trail.specs.Common.{agreed_encoding, call_view, calls, held, if_later, kept, kept_of}
+use Rattle.lsp_trail.specs.Common.{recent, sent_in, steps, terms_in, uri_of, Utf16}
+use Rattle.lsp_docs.specs.Snapshots.{past}
 use Rattle.lsp_docs.proofs.Past.{nothing-past}
 use Rattle.lsp_facts.specs.TwoTexts.{texts_of}
-use Rattle.lsp_verdict.specs.Event.{calls, sent_in}
-use Rattle.lsp_verdict.specs.Offences.{kept_of}
 use Rattle.lsp_trail.specs.Bases.{HoldsAfter, base_at, held_of, sent_since}
 use Rattle.lsp_origins.specs.Fits.{suspected, suspects_in, suspects_view}
-use Rattle.lsp_trail.specs.Marking.{agreed, recent, steps}
+use Rattle.lsp_trail.specs.Marking.{agreed}
 use Rattle.lsp_origins.specs.Told.{setters_until, told, told_of}
-use Rattle.lsp_trail.specs.Trails.{terms_in, agreed_encoding}
-use Rattle.lsp_trail.specs.Uncompared.{if_later, uncompared, uncompared_in}
+use Rattle.lsp_trail.specs.Uncompared.{uncompared, uncompared_in}
 use Rattle.lsp_origins.proofs.ToldFacts.{known, no_text_told, none_differ, none_told, nothing_told}
 use Rattle.lsp_origins.proofs.ToldFacts.{some_told, untold}
 use Rattle.lsp_origins.proofs.told.push_told.Goals as goal

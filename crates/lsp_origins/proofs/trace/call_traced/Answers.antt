@@ -1,13 +1,8 @@
 use Rattle.std.specs.Prelude.{unwrap_or}
 use Rattle.std.proofs.Common.{◌++◌, ◌∙◌, Some, ap, append_assoc, subst}
-use Rattle.lsp_docs.specs.Calls.{uri_of}
-use Rattle.lsp_docs.specs.Taken.{call_view}
-use Rattle.lsp_types.specs.declared.position.Encoding.TheVariants.{Utf16}
-use Rattle.lsp_verdict.specs.Event.{calls, sent_in}
-use Rattle.lsp_verdict.specs.Offences.{kept_of}
+use Rattle.lsp_trail.specs.Common.{call_view, calls, kept_of, sent_in, terms_in, uri_of, Utf16}
 use Rattle.lsp_facts.specs.DocumentFacts.{AreDocumentFacts}
 use Rattle.lsp_facts.specs.EventFacts.{AreCallFacts}
-use Rattle.lsp_trail.specs.Trails.{terms_in}
 use Rattle.lsp_origins.specs.OlderEncoding.{older_traced}
 use Rattle.lsp_origins.specs.Traced.{earlier_of, unopened_traced, unrisen_traced}
 use Rattle.lsp_origins.proofs.trace.call_traced.Goals as goal

@@ -2,13 +2,9 @@ use Rattle.std.proofs.Common.{◌∙◌, ap, rules, sym, w32}
 use Rattle.std.proofs.lemmas.Int.{to_z-of_z}
 use Rattle.std.proofs.lemmas.Result.{IfOk-weaker}
 use mir.Val.{SFits}
-use Rattle.lsp_docs.specs.Calls.{uri_of}
-use Rattle.lsp_docs.specs.Taken.{call_view}
-use Rattle.lsp_verdict.specs.Event.{calls}
-use Rattle.lsp_verdict.specs.Offences.{kept_of}
+use Rattle.lsp_trail.specs.Common.{call_view, calls, kept_of, steps, terms_in, uri_of}
 use Rattle.lsp_facts.specs.Refuting.{refuting}
-use Rattle.lsp_trail.specs.Marking.{steps, waiting_for}
-use Rattle.lsp_trail.specs.Trails.{terms_in}
+use Rattle.lsp_trail.specs.Marking.{waiting_for}
 use Rattle.lsp_origins.specs.Traced.{differing}
 use Rattle.lsp_origins.proofs.trace.differing.Goals as goal
 

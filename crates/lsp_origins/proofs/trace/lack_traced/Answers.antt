@@ -1,12 +1,9 @@
 use Rattle.std.specs.Prelude.{codes, map}
 use Rattle.std.proofs.Common.{◌∷◌, [], ◌++◌, Option, List, sym, ap, ◌∙◌, subst, append_assoc}
-use Rattle.lsp_session.specs.Sent.{Sent}
+use Rattle.lsp_trail.specs.Common.{EventPlace, numbered, Sent, sents, since, terms_in}
 use Rattle.lsp_session.specs.State.{Stands}
-use Rattle.lsp_trail.specs.Asking.{numbered, sents, since}
-use Rattle.lsp_replay.specs.declared.heard.EventPlace.{EventPlace}
 use Rattle.lsp_trail.proofs.SessionSteps.{sents-numbered}
 use Rattle.lsp_facts.specs.Fact.{Fact, in_phase}
-use Rattle.lsp_trail.specs.Trails.{terms_in}
 use Rattle.lsp_origins.specs.Traced.{place_facts, waiting_by}
 use Rattle.lsp_origins.proofs.trace.lack_traced.Goals as goal
 

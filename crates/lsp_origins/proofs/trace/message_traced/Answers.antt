@@ -1,9 +1,5 @@
 use Rattle.std.proofs.Common.{◌++◌, ◌∙◌}
-use Rattle.lsp_rpc.specs.View.{act_view, message_view}
-use Rattle.lsp_verdict.specs.Event.{sent_in}
-use Rattle.lsp_verdict.specs.Offences.{kept_of}
-use Rattle.lsp_trail.specs.Asking.{numbered}
-use Rattle.lsp_trail.specs.Trails.{terms_in}
+use Rattle.lsp_trail.specs.Common.{act_view, kept_of, message_view, numbered, sent_in, terms_in}
 use Rattle.lsp_origins.proofs.SaidFacts.{session_heard, trace_heard}
 use Rattle.lsp_origins.proofs.trace.message_traced.Goals as goal
 

@@ -1,7 +1,5 @@
 use Rattle.std.proofs.Common.{◌≡◌, ◌++◌, List, length, map}
-use Rattle.lsp_docs.specs.Documents.{Terms}
-use Rattle.lsp_verdict.specs.Event.{Event}
-use Rattle.lsp_trail.specs.Asking.{numbered}
+use Rattle.lsp_trail.specs.Common.{Event, numbered, Terms}
 use Rattle.lsp_trail.specs.Conversations.{IsConversation}
 use Rattle.lsp_origins.specs.Traced.{waiting_by}
 use Rattle.lsp_origins.proofs.trace.requests.Given as goal

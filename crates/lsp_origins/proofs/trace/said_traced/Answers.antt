@@ -2,17 +2,9 @@ use Rattle.std.specs.Prelude.{option_and_then, option_map, unwrap_or}
 use Rattle.std.proofs.Common.{◌≡◌, ◌∙◌, [], Bor, Some, None, ap, subst, sym}
 use Rattle.std.proofs.lemmas.Option.{none-some}
 use Rattle.std.proofs.lemmas.Result.{IfOk-weaker}
-use Rattle.lsp_docs.specs.Calls.{uri_of}
-use Rattle.lsp_docs.specs.Rules.{call_rule}
-use Rattle.lsp_docs.specs.Taken.{call_view}
-use Rattle.lsp_docs.specs.declared.tried.Tried.{Tried}
-use Rattle.lsp_replay.specs.Lines.{place_of}
-use Rattle.lsp_replay.specs.Tries.{IsTriedOf, made_in}
-use Rattle.lsp_lined.specs.Counted.{Counted}
-use Rattle.lsp_verdict.specs.Event.{calls}
-use Rattle.lsp_verdict.specs.Offences.{kept_of, said_at}
+use Rattle.lsp_trail.specs.Common.{call_rule, call_view, calls, Counted, IsTriedOf, kept_of}
+use Rattle.lsp_trail.specs.Common.{made_in, place_of, said_at, terms_in, Tried, uri_of}
 use Rattle.lsp_facts.specs.EventFacts.{AreCallFacts}
-use Rattle.lsp_trail.specs.Trails.{terms_in}
 use Rattle.lsp_origins.specs.Traced.{AreTraced, call_traced, earlier_by, earlier_of}
 use Rattle.lsp_origins.proofs.trace.said_traced.Goals as goal
 

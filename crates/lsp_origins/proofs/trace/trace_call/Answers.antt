@@ -1,15 +1,10 @@
 use Rattle.std.specs.Prelude.{codes, map}
 use Rattle.std.proofs.Common.{◌++◌, ◌∙◌, Some, ap, append_assoc, sym}
 use Rattle.std.proofs.lemmas.Result.{on_ok_weaker}
-use Rattle.lsp_docs.specs.Calls.{uri_of}
-use Rattle.lsp_docs.specs.Taken.{call_view}
-use Rattle.lsp_verdict.specs.Event.{calls}
-use Rattle.lsp_verdict.specs.Offences.{kept_of}
+use Rattle.lsp_trail.specs.Common.{call_view, calls, kept_of, steps, terms_in, uri_of}
 use Rattle.lsp_types.specs.declared.rules.TheConstants.{SAVED_TEXT_DIFFERS, SNAPSHOT_DIFFERS}
 use Rattle.lsp_facts.specs.Fact.{cited}
-use Rattle.lsp_trail.specs.Marking.{steps}
 use Rattle.lsp_origins.specs.Told.{told_facts}
-use Rattle.lsp_trail.specs.Trails.{terms_in}
 use Rattle.lsp_origins.specs.Traced.{apart_facts, apart_traced, differing, until_of}
 use Rattle.lsp_origins.proofs.trace.trace_call.Goals as goal
 

@@ -1,9 +1,8 @@
 use Rattle.std.specs.Prelude.{codes}
 use Rattle.std.proofs.Common.{◌++◌, sym, ap, ◌∙◌, append_assoc}
 use Rattle.std.proofs.lemmas.Result.{on_ok_weaker}
-use Rattle.lsp_rpc.specs.Ident.{id_view}
-use Rattle.lsp_session.specs.Sent.{other_side}
-use Rattle.lsp_trail.specs.Asking.{answered, numbered}
+use Rattle.lsp_trail.specs.Common.{id_view, numbered, other_side}
+use Rattle.lsp_trail.specs.Asking.{answered}
 use Rattle.lsp_origins.specs.Traced.{id_trace, place_facts, twin_facts, twin}
 use Rattle.lsp_origins.proofs.trace.trace_id.Goals as goal
 

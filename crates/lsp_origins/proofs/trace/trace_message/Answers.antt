@@ -1,8 +1,7 @@
 use Rattle.std.specs.Prelude.{codes, if◌then◌else◌, option_map, unwrap_or}
 use Rattle.std.proofs.Common.{◌++◌, [], sym, ap, ◌∙◌}
 use Rattle.std.proofs.lemmas.Result.{on_ok_weaker}
-use Rattle.lsp_rpc.specs.View.{message_view}
-use Rattle.lsp_trail.specs.Asking.{numbered, since}
+use Rattle.lsp_trail.specs.Common.{message_view, numbered, since}
 use Rattle.lsp_facts.specs.EventFacts.{id_in}
 use Rattle.lsp_origins.specs.Traced.{id_trace, place_facts}
 use Rattle.lsp_origins.proofs.trace.trace_message.Goals as goal

@@ -1,6 +1,4 @@
-use Rattle.lsp_verdict.specs.Event.{calls}
-use Rattle.lsp_verdict.specs.Offences.{kept_of}
-use Rattle.lsp_trail.specs.Trails.{terms_in}
+use Rattle.lsp_trail.specs.Common.{calls, kept_of, terms_in}
 use Rattle.lsp_origins.proofs.unopened.is_standing.Goals as goal
 
 pub returns : goal.returns

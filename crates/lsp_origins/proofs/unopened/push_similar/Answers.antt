@@ -3,10 +3,8 @@ use Rattle.std.proofs.lemmas.List.{map-append}
 use Rattle.std.specs.List.{flat_map}
 use Rattle.std.proofs.lemmas.Grind.{flat_map-append}
 use Rattle.std.proofs.lemmas.Result.{on_ok_weaker}
-use Rattle.lsp_trail.specs.Openings.{on_view, ons_view}
+use Rattle.lsp_trail.specs.Common.{last_openings, on_view, ons_view, terms_in}
 use Rattle.lsp_facts.specs.Fact.{Fact}
-use Rattle.lsp_trail.specs.Trails.{terms_in}
-use Rattle.lsp_trail.specs.Spelled.{last_openings}
 use Rattle.lsp_origins.specs.Traced.{similar_fact}
 use Rattle.lsp_origins.proofs.unopened.push_similar.Goals as goal
 

@@ -1,8 +1,6 @@
 use Rattle.std.proofs.Common.{◌≡◌, ◌++◌, List, take}
 use Rattle.std.specs.List.{flat_map}
-use Rattle.lsp_verdict.specs.Event.{Event}
-use Rattle.lsp_trail.specs.Openings.{ons_view}
-use Rattle.lsp_trail.specs.Trails.{StandsAfter, terms_in}
+use Rattle.lsp_trail.specs.Common.{Event, ons_view, StandsAfter, terms_in}
 use Rattle.lsp_origins.specs.Traced.{similar_fact}
 use Rattle.lsp_origins.proofs.unopened.push_spelled.Given as goal
 

@@ -3,9 +3,7 @@ use Rattle.std.specs.Prelude.{if◌then◌else◌}
 use Rattle.std.proofs.Common.{◌++◌, ◌∙◌, Bool, ap, sym}
 use Rattle.std.proofs.lemmas.Int.{to_z-of_z}
 use Rattle.std.proofs.lemmas.Result.{on_ok_weaker}
-use Rattle.lsp_text.specs.Changes.{edits_of}
-use Rattle.lsp_trail.specs.LastChange.{last_change}
-use Rattle.lsp_trail.specs.Marking.{is_set_to}
+use Rattle.lsp_trail.specs.Common.{edits_of, is_set_to, last_change}
 use Rattle.lsp_origins.specs.Traced.{precedes_facts, same_facts}
 use Rattle.lsp_origins.proofs.unrisen.push_setter.Goals as goal
 

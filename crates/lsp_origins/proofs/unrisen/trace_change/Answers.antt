@@ -2,10 +2,8 @@ use mir.Syntax.{w32}
 use Rattle.std.proofs.Common.{◌++◌, ◌∙◌, ap}
 use Rattle.std.proofs.lemmas.Int.{to_z-of_z}
 use Rattle.std.proofs.lemmas.Result.{on_ok_weaker}
-use Rattle.lsp_text.specs.Changes.{edits_of}
-use Rattle.lsp_trail.specs.LastChange.{last_change}
+use Rattle.lsp_trail.specs.Common.{edits_of, last_change, terms_in}
 use Rattle.lsp_origins.specs.Traced.{unrisen_facts}
-use Rattle.lsp_trail.specs.Trails.{terms_in}
 use Rattle.lsp_origins.proofs.unrisen.trace_change.Goals as goal
 
 pub returns : goal.returns

@@ -1,6 +1,5 @@
 use Rattle.std.proofs.Common.{List, ℕ, subst}
-use Rattle.lsp_verdict.specs.Given.{verdict_view}
-use Rattle.lsp_verdict.specs.Outcome.{IsVerdict}
+use Rattle.lsp_replay.specs.Common.{IsVerdict, verdict_view}
 use Rattle.lsp_redact.proofs.check.is_shown.Goals as goal
 
 pub returns : goal.returns

@@ -1,7 +1,6 @@
 use Rattle.std.proofs.Common.{[], List, ℕ, Bool, true, false, ap, append-nil, refl, string_bytes}
 use Rattle.std.proofs.Common.{subst, sym, if◌then◌else◌}
-use Rattle.lsp_frame.specs.Bounds.{Bounds}
-use Rattle.lsp_verdict.specs.Given.{verdict_view}
+use Rattle.lsp_replay.specs.Common.{Bounds, verdict_view}
 use Rattle.lsp_verdict.specs.Verdict.{Verdict}
 use Rattle.lsp_verdict.specs.declared.outcome.Outcome.{Outcome}
 use Rattle.lsp_redact.specs.Check.{Checks, EndsIf, IsShown}

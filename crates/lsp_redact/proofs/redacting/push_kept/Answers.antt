@@ -3,8 +3,7 @@ use Rattle.std.proofs.Common.{w32, ◌∙◌}
 use Rattle.std.proofs.lemmas.Int.{to_z-of_z}
 use mir.Val.{SFits}
 use Rattle.std.specs.List.{flat_map}
-use Rattle.lsp_log.specs.Log.{shown, spelling}
-use Rattle.lsp_rpc.specs.Act.{Text}
+use Rattle.lsp_replay.specs.Common.{shown, spelling, Text}
 use Rattle.lsp_redact.specs.Characters.{shown_bytes}
 use Rattle.lsp_redact.specs.Records.{content_records}
 use Rattle.lsp_redact.proofs.Showing.{shows_made, writes_made}

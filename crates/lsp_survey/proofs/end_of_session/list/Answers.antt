@@ -2,8 +2,7 @@ use Rattle.std.specs.Prelude.{map}
 use Rattle.std.proofs.Common.{[], ◌∷◌, ◌++◌, ◌∙◌, ap, append-nil, sym}
 use Rattle.std.proofs.lemmas.List.{map-append}
 use Rattle.lsp_survey.specs.SessionEnds.{listed_by}
-use Rattle.lsp_verdict.specs.Given.{offence_view}
-use Rattle.lsp_verdict.specs.Survey.{by_itself}
+use Rattle.lsp_replay.specs.Common.{by_itself, offence_view}
 use Rattle.lsp_verdict.specs.Verdict.{Verdict}
 use Rattle.lsp_verdict.proofs.ExactCounts.{no_exact}
 use Rattle.lsp_survey.proofs.end_of_session.list.Goals as goal

@@ -3,9 +3,7 @@ use Rattle.std.proofs.Common.{◌∙◌, ap, sym}
 use Rattle.lsp_replay.proofs.AllHeard.{few_events}
 use Rattle.lsp_survey.specs.SessionEnds.{ends_held}
 use Rattle.lsp_survey.proofs.SessionEnds.{ends_given, sound_end}
-use Rattle.lsp_verdict.specs.Given.{offence_view}
-use Rattle.lsp_verdict.specs.Heard.{heard_events}
-use Rattle.lsp_verdict.specs.Survey.{by_itself}
+use Rattle.lsp_replay.specs.Common.{by_itself, heard_events, offence_view}
 use Rattle.lsp_survey.proofs.end_of_session.session_end.Goals as goal
 
 pub returns-clause-listed : goal.returns-clause-listed

@@ -1,7 +1,6 @@
 use Rattle.std.proofs.Common.{subst}
 use Rattle.std.proofs.lemmas.Result.{on_ok_weaker}
-use Rattle.lsp_rpc.specs.Reading.{BreaksRule, IsRefusal}
-use Rattle.lsp_rpc.specs.View.{message_view}
+use Rattle.lsp_replay.specs.Common.{BreaksRule, IsRefusal, message_view}
 use Rattle.lsp_trail.specs.Renames.{Moves, moves_in}
 use Rattle.lsp_verdict.proofs.Below.{not_both, one_message}
 use Rattle.lsp_trail.proofs.renames.add_content.Goals as goal

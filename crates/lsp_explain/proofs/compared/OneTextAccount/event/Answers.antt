@@ -1,8 +1,7 @@
 use Rattle.std.specs.Prelude.{is_some}
 use Rattle.std.proofs.Common.{◌∙◌, None, Some, ap, refl, subst, sym}
 use Rattle.std.proofs.lemmas.Result.{IfOk-weaker}
-use Rattle.lsp_replay.specs.Telling.{HasFate}
-use Rattle.lsp_replay.specs.declared.seen.Fate.{Fate}
+use Rattle.lsp_trail.specs.Common.{Fate, HasFate}
 use Rattle.lsp_replay.proofs.AllHeard.{first_after, kept_seen, none_is}
 use Rattle.lsp_replay.proofs.TextRuns.{says_answer, says_none}
 use Rattle.lsp_replay.proofs.Wanting.{on_err}

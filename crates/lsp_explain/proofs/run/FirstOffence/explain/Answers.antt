@@ -1,10 +1,6 @@
 use Rattle.std.proofs.Common.{◌≡◌, ◌∙◌, ◌++◌, ap, refl, string_bytes, subst, sym}
-use Rattle.lsp_docs.specs.Documents.{Terms}
-use Rattle.lsp_replay.specs.Telling.{HasFate, ShowsFault}
-use Rattle.lsp_replay.specs.declared.seen.Fate.{Fate}
-use Rattle.lsp_verdict.specs.Given.{verdict_view}
-use Rattle.lsp_verdict.specs.Heard.{heard_events}
-use Rattle.lsp_verdict.specs.Offences.{Offence}
+use Rattle.lsp_trail.specs.Common.{Fate, HasFate, heard_events, Offence, ShowsFault, Terms}
+use Rattle.lsp_trail.specs.Common.{verdict_view}
 use Rattle.lsp_notes.specs.MessageNotes.{AreNoted}
 use Rattle.lsp_notes.specs.Misfits.{found_kept, found_refuted}
 use Rattle.lsp_notes.specs.Notes.{noticed, note_lines, notes_by}

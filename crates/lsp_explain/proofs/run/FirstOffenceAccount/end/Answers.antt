@@ -1,7 +1,5 @@
 use Rattle.std.proofs.Common.{◌≡◌, ◌++◌, [], append-nil, string_bytes, subst, sym}
-use Rattle.lsp_docs.specs.Documents.{Terms}
-use Rattle.lsp_verdict.specs.Given.{verdict_view}
-use Rattle.lsp_verdict.specs.Heard.{heard_events}
+use Rattle.lsp_trail.specs.Common.{heard_events, Terms, verdict_view}
 use Rattle.lsp_notes.specs.MessageNotes.{AreNoted}
 use Rattle.lsp_notes.specs.Misfits.{AreMisfits, found_kept}
 use Rattle.lsp_notes.specs.Notes.{noticed, note_lines, notes_by}

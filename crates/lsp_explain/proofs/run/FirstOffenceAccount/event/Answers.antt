@@ -2,8 +2,7 @@ use Rattle.std.proofs.Common.{refl, string_bytes, subst, sym}
 use Rattle.std.proofs.lemmas.Result.{IfOk-weaker}
 use Rattle.lsp_replay.proofs.AllHeard.{kept_seen}
 use Rattle.lsp_replay.proofs.Wanting.{on_err}
-use Rattle.lsp_replay.specs.Telling.{ShowsFault}
-use Rattle.lsp_verdict.specs.Heard.{heard_events}
+use Rattle.lsp_trail.specs.Common.{heard_events, ShowsFault}
 use Rattle.lsp_notes.specs.Misfits.{AreMisfits}
 use Rattle.lsp_explain.proofs.AccountSteps.{first_kept}
 use Rattle.lsp_notes.proofs.Misfitting.{found_kept-push}

@@ -1,9 +1,7 @@
 use Rattle.std.specs.Prelude.{map, option_map}
 use Rattle.std.proofs.Common.{◌++◌, ◌∙◌, ap, refl}
 use Rattle.lsp_survey.proofs.SurveySteps.{clean_by}
-use Rattle.lsp_verdict.specs.Given.{offence_view, verdict_view}
-use Rattle.lsp_verdict.specs.Heard.{heard_events, notes_of}
-use Rattle.lsp_verdict.specs.Offences.{offences}
+use Rattle.lsp_trail.specs.Common.{heard_events, notes_of, offence_view, offences, verdict_view}
 use Rattle.lsp_explain.proofs.Ending.{all_closes, few_found, nos_listed}
 use Rattle.lsp_origins.proofs.Telling.{stands_at}
 use Rattle.lsp_origins.specs.Explained.{rests_held}

@@ -1,11 +1,8 @@
 use Rattle.std.proofs.Common.{◌∙◌, ap, refl, string_bytes, subst}
-use Rattle.lsp_replay.specs.Telling.{HasFate, ShowsFault, rule_of}
-use Rattle.lsp_verdict.specs.Heard.{heard_events}
-use Rattle.lsp_replay.specs.declared.seen.Fate.{Fate}
+use Rattle.lsp_trail.specs.Common.{Fate, HasFate, heard_events, Offence, rule_of, ShowsFault}
 use Rattle.lsp_survey.proofs.SurveySteps.{offence_is}
 use Rattle.lsp_replay.proofs.AllHeard.{kept_seen}
 use Rattle.lsp_replay.proofs.Wanting.{on_err}
-use Rattle.lsp_verdict.specs.Offences.{Offence}
 use Rattle.lsp_explain.proofs.AccountSteps.{all_kept, all_late, all_told, cause_wants, kept_wants}
 use Rattle.lsp_explain.proofs.AccountSteps.{lost_wants}
 use Rattle.lsp_origins.proofs.Telling.{told_of}

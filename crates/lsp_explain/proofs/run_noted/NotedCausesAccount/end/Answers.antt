@@ -1,9 +1,6 @@
 use Rattle.std.proofs.Common.{◌≡◌, ◌++◌, string_bytes, subst, sym}
-use Rattle.lsp_docs.specs.Documents.{Terms}
-use Rattle.lsp_verdict.specs.Given.{verdict_view}
-use Rattle.lsp_verdict.specs.Heard.{heard_events}
+use Rattle.lsp_trail.specs.Common.{heard_events, IsTrail, Terms, verdict_view}
 use Rattle.lsp_notes.specs.AllNotes.{AreAlong, end_notes, noticed_along}
-use Rattle.lsp_trail.specs.Trails.{IsTrail}
 use Rattle.lsp_trail.specs.declared.trail.Trail.{Trail}
 use Rattle.lsp_origins.proofs.Telling.{stands_at}
 use Rattle.lsp_explain.proofs.run_noted.NotedCausesAccount.end.Goals as goal

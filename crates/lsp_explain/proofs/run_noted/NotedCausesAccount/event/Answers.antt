@@ -1,8 +1,6 @@
 use Rattle.std.proofs.Common.{◌≡◌, ◌++◌, ◌∷◌, [], refl, string_bytes, subst, sym}
-use Rattle.lsp_docs.specs.Documents.{Terms}
+use Rattle.lsp_trail.specs.Common.{heard_events, ShowsFault, Terms}
 use Rattle.lsp_facts.specs.Fact.{fact_lines}
-use Rattle.lsp_replay.specs.Telling.{ShowsFault}
-use Rattle.lsp_verdict.specs.Heard.{heard_events}
 use Rattle.lsp_replay.proofs.Wanting.{on_err}
 use Rattle.lsp_notes.specs.AllNotes.{AreAlong, notes_at}
 use Rattle.lsp_explain.specs.ExplainRuns.{AllStands}

@@ -1,7 +1,6 @@
 use Rattle.std.proofs.Common.{ap, refl, sym, ◌∙◌, Some}
-use Rattle.lsp_verdict.specs.Given.{verdict_view}
+use Rattle.lsp_replay.specs.Common.{bad_log, no, verdict_view}
 use Rattle.lsp_judge.specs.Standing.{State}
-use Rattle.lsp_verdict.specs.Verdict.{bad_log, no}
 use Rattle.lsp_judge.proofs.Answering.{given_names, keeps_given, keeps_ungiven, no_fault, open_none}
 use Rattle.lsp_judge.proofs.Finals.{given_final, log_final}
 use Rattle.lsp_judge.proofs.Records.{offence_in}

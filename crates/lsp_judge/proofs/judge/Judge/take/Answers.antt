@@ -1,6 +1,5 @@
 use Rattle.std.proofs.Common.{ap, refl, sym, ◌∙◌, ◌∷◌, ◌++◌, []}
-use Rattle.lsp_log.specs.Records.{record_view}
-use Rattle.lsp_verdict.specs.Given.{verdict_view}
+use Rattle.lsp_replay.specs.Common.{record_view, verdict_view}
 use Rattle.lsp_judge.specs.Standing.{State}
 use Rattle.lsp_judge.proofs.Answering.{keeps_given, keeps_ungiven, taken_no, taken_clean}
 use Rattle.lsp_judge.proofs.Records.{given_stays, given_verdict, is_open, none_verdict, open_stands}

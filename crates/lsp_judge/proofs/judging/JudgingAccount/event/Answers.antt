@@ -1,10 +1,9 @@
 use Rattle.std.specs.Prelude.{◌||◌, is_some}
 use Rattle.std.proofs.Common.{◌∙◌, ap}
 use Rattle.lsp_judge.proofs.JudgingSteps.{kept_says, offence_says, offence_wants}
-use Rattle.lsp_replay.specs.Telling.{no_of}
+use Rattle.lsp_replay.specs.Common.{no_of, Offence}
 use Rattle.lsp_replay.proofs.Wanting.{on_err}
 use Rattle.lsp_replay.proofs.AllHeard.{kept_seen}
-use Rattle.lsp_verdict.specs.Offences.{Offence}
 use Rattle.lsp_judge.proofs.judging.JudgingAccount.event.Goals as goal
 
 pub returns-in-Offends-clause-says : goal.returns-in-Offends-clause-says

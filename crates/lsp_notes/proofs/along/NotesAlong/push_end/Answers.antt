@@ -2,12 +2,10 @@ use Rattle.std.specs.Prelude.{length}
 use Rattle.std.proofs.Common.{◌++◌, ◌∙◌, ap, append_assoc, string_bytes}
 use Rattle.std.proofs.lemmas.Result.{on_ok_weaker}
 use Rattle.lsp_facts.specs.Fact.{fact_lines}
-use Rattle.lsp_verdict.specs.Given.{verdict_view}
-use Rattle.lsp_verdict.specs.Heard.{heard_events}
+use Rattle.lsp_trail.specs.Common.{heard_events, names_view, terms_in, verdict_view}
 use Rattle.lsp_notes.specs.AllNotes.{found_along, sound_events}
 use Rattle.lsp_notes.specs.Notes.{count_line, notes_by, noticed, uncompared, with_exit, with_server}
-use Rattle.lsp_trail.specs.Openings.{names_view, unshown}
-use Rattle.lsp_trail.specs.Trails.{terms_in}
+use Rattle.lsp_trail.specs.Openings.{unshown}
 use Rattle.lsp_notes.proofs.along.NotesAlong.push_end.Goals as goal
 
 pub returns : goal.returns

@@ -2,12 +2,11 @@ use Rattle.std.specs.Prelude.{drop, map, option_map}
 use Rattle.std.proofs.Common.{◌∷◌, [], ◌++◌, ◌∙◌, ap, sym}
 use Rattle.std.proofs.lemmas.List.{drop-map}
 use Rattle.std.proofs.lemmas.Result.{on_ok_weaker}
-use Rattle.lsp_verdict.specs.Heard.{heard_events}
+use Rattle.lsp_trail.specs.Common.{heard_events, misused_views, on_view}
 use Rattle.lsp_notes.specs.AllNotes.{one}
 use Rattle.lsp_notes.specs.DocumentNotes.{document_line, notes_view}
 use Rattle.lsp_notes.specs.Notes.{exit_notes, misuse_line, name_notes, old_name_notes}
-use Rattle.lsp_trail.specs.Openings.{on_view}
-use Rattle.lsp_trail.specs.SessionNotes.{misused_view, misused_views}
+use Rattle.lsp_trail.specs.SessionNotes.{misused_view}
 use Rattle.lsp_notes.proofs.NotedSteps.{all_added, exit_told, name_told, renamed_told}
 use Rattle.lsp_notes.proofs.along.NotesAlong.push_since.Goals as goal
 

@@ -1,12 +1,8 @@
 use Rattle.std.specs.Prelude.{option_map}
 use Rattle.std.proofs.Common.{false, subst, sym, true}
 use Rattle.std.proofs.lemmas.Result.{on_ok_weaker}
-use Rattle.lsp_docs.specs.Documents.{Terms}
-use Rattle.lsp_docs.specs.Taken.{call_view}
-use Rattle.lsp_replay.specs.Telling.{HasFate, kept_before}
-use Rattle.lsp_verdict.specs.Event.{calls}
-use Rattle.lsp_verdict.specs.Given.{raw_view}
-use Rattle.lsp_verdict.specs.Offences.{is_reopened}
+use Rattle.lsp_trail.specs.Common.{call_view, calls, HasFate, is_reopened, kept_before, raw_view}
+use Rattle.lsp_trail.specs.Common.{Terms}
 use Rattle.lsp_notes.specs.Behind.{PutsBehind, renewed, skipped}
 use Rattle.lsp_notes.proofs.BehindSteps.{behind_more, held_before, renewed_here, skipped_here}
 use Rattle.lsp_notes.proofs.behind.Behind.note.Goals as goal

@@ -1,8 +1,7 @@
 use Rattle.std.specs.Prelude.{option_map}
 use Rattle.std.proofs.Common.{◌∷◌, ◌++◌, ◌∙◌, [], ap, subst, sym}
 use Rattle.std.proofs.lemmas.Result.{on_ok_weaker}
-use Rattle.lsp_docs.specs.Taken.{call_view}
-use Rattle.lsp_verdict.specs.Heard.{heard_events}
+use Rattle.lsp_trail.specs.Common.{call_view, heard_events}
 use Rattle.lsp_notes.specs.MessageNotes.{served_with}
 use Rattle.lsp_notes.specs.ServerEdits.{AreServerEdits}
 use Rattle.lsp_notes.proofs.Refusing.{refusals_called}

@@ -1,9 +1,7 @@
 use Rattle.std.specs.Prelude.{option_map}
 use Rattle.std.proofs.Common.{◌∙◌, ap, subst, sym}
 use Rattle.std.proofs.lemmas.Result.{on_ok_weaker}
-use Rattle.lsp_docs.specs.Taken.{call_view}
-use Rattle.lsp_verdict.specs.Offences.{IsNoted}
-use Rattle.lsp_verdict.specs.Placed.{Raw}
+use Rattle.lsp_trail.specs.Common.{call_view, IsNoted, Raw}
 use Rattle.lsp_notes.proofs.messages.MessageNotes.note_event.Goals as goal
 
 -- it says nothing of a document

@@ -1,7 +1,6 @@
 use Rattle.std.proofs.Common.{subst, sym}
 use Rattle.std.proofs.lemmas.Result.{on_ok_weaker}
-use Rattle.lsp_replay.specs.Telling.{kept_before}
-use Rattle.lsp_verdict.specs.Heard.{heard_events}
+use Rattle.lsp_trail.specs.Common.{heard_events, kept_before}
 use Rattle.lsp_notes.specs.Refusals.{AreRefusals}
 use Rattle.lsp_notes.proofs.messages.MessageNotes.note_message.Goals as goal
 

@@ -1,18 +1,12 @@
 use Rattle.std.specs.Prelude.{option_and_then, option_map}
 use Rattle.std.proofs.Common.{◌∙◌, ap, refl, subst, sym}
 use Rattle.std.proofs.lemmas.Result.{on_ok_weaker}
-use Rattle.lsp_docs.specs.Taken.{call_view}
+use Rattle.lsp_trail.specs.Common.{AreCounts, call_view, calls, Fate, HasFate, heard_events}
+use Rattle.lsp_trail.specs.Common.{IsNoted, kept_before, place_of, Raw, raw_view}
 use Rattle.lsp_docs.specs.declared.call.Took.TheVariants.{Changed}
-use Rattle.lsp_replay.specs.Lines.{place_of}
-use Rattle.lsp_replay.specs.Telling.{HasFate, kept_before, took_of}
-use Rattle.lsp_replay.specs.declared.seen.Fate.{Fate}
+use Rattle.lsp_replay.specs.Telling.{took_of}
 use Rattle.lsp_replay.proofs.Following.{whose_read}
 use Rattle.lsp_replay.proofs.Seeing.{events-push}
-use Rattle.lsp_verdict.specs.Event.{calls}
-use Rattle.lsp_verdict.specs.Given.{AreCounts, raw_view}
-use Rattle.lsp_verdict.specs.Heard.{heard_events}
-use Rattle.lsp_verdict.specs.Offences.{IsNoted}
-use Rattle.lsp_verdict.specs.Placed.{Raw}
 use Rattle.lsp_notes.specs.Misfits.{call_found}
 use Rattle.lsp_notes.proofs.Misfitting.{misfits_kept, misfits_past, none_quiet, quiet_by}
 use Rattle.lsp_notes.proofs.Misfitting.{quiet_said, told_call}

@@ -1,19 +1,10 @@
 use Rattle.std.specs.Prelude.{option_and_then, option_map}
 use Rattle.std.proofs.Common.{◌≡◌, ◌≤◌, ◌∙◌, Some, ap, lit≤, subst, sym}
 use Rattle.std.proofs.lemmas.Result.{on_ok_weaker}
-use Rattle.lsp_docs.specs.Documents.{Terms}
-use Rattle.lsp_docs.specs.Rules.{call_rule}
-use Rattle.lsp_docs.specs.Taken.{call_view}
-use Rattle.lsp_replay.specs.Lines.{place_of}
-use Rattle.lsp_replay.specs.Standing.{Holds}
-use Rattle.lsp_replay.specs.Telling.{kept_before}
+use Rattle.lsp_trail.specs.Common.{AreCounts, call_rule, call_view, calls, heard_events, Holds}
+use Rattle.lsp_trail.specs.Common.{IsNoted, kept_before, kept_of, place_of, Raw, raw_view, Terms}
 use Rattle.lsp_replay.proofs.Following.{whose_read}
 use Rattle.lsp_replay.proofs.Seeing.{events-push}
-use Rattle.lsp_verdict.specs.Event.{calls}
-use Rattle.lsp_verdict.specs.Given.{AreCounts, raw_view}
-use Rattle.lsp_verdict.specs.Heard.{heard_events}
-use Rattle.lsp_verdict.specs.Offences.{IsNoted, kept_of}
-use Rattle.lsp_verdict.specs.Placed.{Raw}
 use Rattle.lsp_verdict.proofs.Offences.Steps.{kept-refused}
 use Rattle.lsp_notes.specs.Misfits.{call_found, findings_of, finds}
 use Rattle.lsp_notes.proofs.Misfitting.{misfits_refuted}

@@ -2,10 +2,7 @@ use Rattle.std.proofs.Common.{◌∙◌, ap, refl, subst, sym}
 use Rattle.std.proofs.lemmas.Result.{on_ok_weaker}
 use Rattle.lsp_replay.proofs.Following.{whose_read}
 use Rattle.lsp_replay.proofs.Seeing.{events-push}
-use Rattle.lsp_verdict.specs.Given.{AreCounts}
-use Rattle.lsp_verdict.specs.Heard.{heard_events}
-use Rattle.lsp_verdict.specs.Placed.{content}
-use Rattle.lsp_trail.specs.Naming.{version_named}
+use Rattle.lsp_trail.specs.Common.{AreCounts, content, heard_events, version_named}
 use Rattle.lsp_trail.proofs.NamedDocuments.{said_so}
 use Rattle.lsp_notes.proofs.Refusing.{answered_more, asked_more}
 use Rattle.lsp_trail.proofs.Trails.{is_message, no_content}

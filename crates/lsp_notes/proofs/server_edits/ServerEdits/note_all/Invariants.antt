@@ -1,6 +1,5 @@
 use Rattle.std.proofs.Common.{List, map, take}
-use Rattle.lsp_docs.specs.Documents.{Terms}
-use Rattle.lsp_verdict.specs.Event.{Event}
+use Rattle.lsp_trail.specs.Common.{Event, Terms}
 use Rattle.lsp_notes.specs.ServerEdits.{IsNow, NotesBy, edited_view}
 use Rattle.lsp_notes.proofs.server_edits.ServerEdits.note_all.Given as goal
 

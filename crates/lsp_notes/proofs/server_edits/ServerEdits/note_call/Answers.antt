@@ -1,20 +1,13 @@
 use Rattle.std.specs.Prelude.{length, option_map}
 use Rattle.std.proofs.Common.{◌≡◌, ◌∙◌, ap, rules, subst, sym}
 use Rattle.std.proofs.lemmas.Result.{on_ok_weaker}
-use Rattle.lsp_docs.specs.Documents.{Terms}
-use Rattle.lsp_docs.specs.State.{Stands}
-use Rattle.lsp_docs.specs.Taken.{call_view}
+use Rattle.lsp_trail.specs.Common.{AreCounts, call_view, calls, heard_events, IsNoted, IsTrail}
+use Rattle.lsp_trail.specs.Common.{kept_of, Raw, raw_view, Stands, Terms}
 use Rattle.lsp_replay.proofs.Following.{whose_read}
 use Rattle.lsp_replay.proofs.Seeing.{events-push}
-use Rattle.lsp_verdict.specs.Event.{calls}
-use Rattle.lsp_verdict.specs.Given.{AreCounts, raw_view}
-use Rattle.lsp_verdict.specs.Heard.{heard_events}
-use Rattle.lsp_verdict.specs.Offences.{IsNoted, kept_of}
-use Rattle.lsp_verdict.specs.Placed.{Raw}
 use Rattle.lsp_notes.specs.DocumentNotes.{notes_view, with_note}
 use Rattle.lsp_notes.specs.LateEdits.{lates_view}
 use Rattle.lsp_notes.specs.ServerEdits.{calls_with, last_answers, late_by}
-use Rattle.lsp_trail.specs.Trails.{IsTrail}
 use Rattle.lsp_notes.proofs.ServerNoting.{edits_called, edits_quiet, none_in}
 use Rattle.lsp_notes.proofs.server_edits.ServerEdits.note_call.Goals as goal
 

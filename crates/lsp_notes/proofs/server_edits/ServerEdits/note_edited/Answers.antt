@@ -1,8 +1,7 @@
 use Rattle.std.specs.Prelude.{option_map}
 use Rattle.std.specs.List.{cons_option}
 use Rattle.std.proofs.Common.{◌≡◌, ◌∙◌, [], ap, refl, subst, sym}
-use Rattle.lsp_replay.specs.Lines.{place_of}
-use Rattle.lsp_text.specs.Changes.{edits_of}
+use Rattle.lsp_trail.specs.Common.{edits_of, place_of}
 use Rattle.lsp_notes.specs.DocumentNotes.{notes_view, with_note}
 use Rattle.lsp_notes.specs.LateEdits.{HoldsLate}
 use Rattle.lsp_notes.specs.ServerEdits.{edited_view, late_in, note_on, outside_in}

@@ -2,13 +2,8 @@ use Rattle.std.proofs.Common.{◌∙◌, ap, refl, subst, sym}
 use Rattle.std.proofs.lemmas.Result.{on_ok_weaker}
 use Rattle.lsp_replay.proofs.Following.{whose_read}
 use Rattle.lsp_replay.proofs.Seeing.{events-push}
-use Rattle.lsp_replay.specs.Lines.{place_of}
-use Rattle.lsp_replay.specs.Standing.{Holds}
-use Rattle.lsp_verdict.specs.Given.{AreCounts}
-use Rattle.lsp_verdict.specs.Heard.{heard_events}
-use Rattle.lsp_verdict.specs.Offences.{kept_of}
-use Rattle.lsp_verdict.specs.Placed.{content}
-use Rattle.lsp_trail.specs.Naming.{version_named}
+use Rattle.lsp_trail.specs.Common.{AreCounts, content, heard_events, Holds, kept_of, place_of}
+use Rattle.lsp_trail.specs.Common.{version_named}
 use Rattle.lsp_trail.proofs.NamedDocuments.{said_so}
 use Rattle.lsp_notes.proofs.ServerNoting.{edits_asked, edits_sent, own_reads}
 use Rattle.lsp_trail.proofs.Trails.{is_message, no_content}

@@ -2,9 +2,8 @@ use Rattle.std.specs.List.{cons_option}
 use Rattle.std.specs.Prelude.{option_map}
 use Rattle.std.proofs.Common.{◌∙◌, [], refl, subst}
 use Rattle.std.proofs.lemmas.Result.{on_ok_weaker}
-use Rattle.lsp_text.specs.Changes.{edits_of}
+use Rattle.lsp_trail.specs.Common.{edits_of, on_document}
 use Rattle.lsp_notes.specs.DocumentNotes.{document_note, notes_view, with_note}
-use Rattle.lsp_trail.specs.History.{on_document}
 use Rattle.lsp_notes.specs.LateEdits.{HoldsLate, if_late}
 use Rattle.lsp_notes.specs.TextsSince.{contents}
 use Rattle.lsp_notes.proofs.server_edits.ServerEdits.note_sight.Goals as goal

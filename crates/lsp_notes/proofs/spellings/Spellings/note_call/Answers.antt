@@ -1,17 +1,11 @@
 use Rattle.std.specs.Prelude.{option_map}
 use Rattle.std.proofs.Common.{◌≡◌, ◌∙◌, ◌++◌, ◌∷◌, [], Some, ap, refl, subst, sym}
 use Rattle.std.proofs.lemmas.Result.{on_ok_weaker}
-use Rattle.lsp_docs.specs.Documents.{Terms}
-use Rattle.lsp_docs.specs.Taken.{call_view}
+use Rattle.lsp_trail.specs.Common.{AreCounts, AreOpenings, call_view, calls, heard_events, IsNoted}
+use Rattle.lsp_trail.specs.Common.{kept_of, Raw, raw_view, Terms}
 use Rattle.lsp_replay.proofs.Following.{whose_read}
 use Rattle.lsp_replay.proofs.Seeing.{events-push}
-use Rattle.lsp_verdict.specs.Event.{calls}
-use Rattle.lsp_verdict.specs.Given.{AreCounts, raw_view}
-use Rattle.lsp_verdict.specs.Heard.{heard_events}
-use Rattle.lsp_verdict.specs.Offences.{IsNoted, kept_of}
-use Rattle.lsp_verdict.specs.Placed.{Raw}
 use Rattle.lsp_notes.specs.DocumentNotes.{notes_view, with_note}
-use Rattle.lsp_trail.specs.Openings.{AreOpenings}
 use Rattle.lsp_trail.proofs.Saving.{calls_after}
 use Rattle.lsp_notes.specs.Spellings.{HoldsOthers, spelling_note, unopened_by}
 use Rattle.lsp_notes.proofs.OtherSpellings.{called_none, called_one, none_before, unopened_before}

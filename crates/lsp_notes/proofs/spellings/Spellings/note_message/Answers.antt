@@ -1,17 +1,11 @@
 use Rattle.std.specs.Prelude.{option_and_then, option_map}
 use Rattle.std.proofs.Common.{◌≡◌, ◌∙◌, ◌++◌, ◌∷◌, [], None, ap, append-nil, refl, subst, sym}
 use Rattle.std.proofs.lemmas.Result.{on_ok_weaker}
-use Rattle.lsp_docs.specs.Documents.{Terms}
-use Rattle.lsp_outline.specs.Versions.{Versioned, version_view}
+use Rattle.lsp_trail.specs.Common.{AreCounts, AreOpenings, calls, heard_events, if_unopened}
+use Rattle.lsp_trail.specs.Common.{kept_of, raw_view, Terms, version_view, Versioned}
 use Rattle.lsp_replay.proofs.Following.{whose_read}
 use Rattle.lsp_replay.proofs.Seeing.{events-push}
-use Rattle.lsp_verdict.specs.Event.{calls}
-use Rattle.lsp_verdict.specs.Given.{AreCounts, raw_view}
-use Rattle.lsp_verdict.specs.Heard.{heard_events}
-use Rattle.lsp_verdict.specs.Offences.{kept_of}
 use Rattle.lsp_notes.specs.DocumentNotes.{notes_view, with_note}
-use Rattle.lsp_trail.specs.Naming.{if_unopened}
-use Rattle.lsp_trail.specs.Openings.{AreOpenings}
 use Rattle.lsp_trail.proofs.Saving.{calls_after}
 use Rattle.lsp_notes.specs.Spellings.{HoldsOthers, spelling_note}
 use Rattle.lsp_notes.proofs.OtherSpellings.{named_none, named_one, others_stay}

@@ -1,6 +1,5 @@
 use Rattle.std.proofs.Common.{ap, sym, subst, ◌∙◌, map, max, string_bytes}
-use Rattle.lsp_docs.specs.Documents.{Terms}
-use Rattle.lsp_verdict.specs.Heard.{heard_events}
+use Rattle.lsp_replay.specs.Common.{heard_events, Terms}
 use Rattle.lsp_verdict.specs.Placed.{Raw}
 use Rattle.lsp_redact.specs.Kept.{kept_of}
 use Rattle.lsp_redact.specs.Records.{written}

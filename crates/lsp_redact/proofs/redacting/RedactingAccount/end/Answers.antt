@@ -1,8 +1,6 @@
 use Rattle.std.proofs.Common.{◌≡◌, ap, ◌∙◌, map, max, string_bytes}
-use Rattle.lsp_docs.specs.Documents.{Terms}
+use Rattle.lsp_replay.specs.Common.{heard_events, Terms, verdict_view}
 use Rattle.lsp_judge.proofs.JudgingSteps.{ends_given}
-use Rattle.lsp_verdict.specs.Given.{verdict_view}
-use Rattle.lsp_verdict.specs.Heard.{heard_events}
 use Rattle.lsp_verdict.specs.declared.completeness.Completeness.TheVariants.{Ignored}
 use Rattle.lsp_redact.specs.Records.{most_of, written}
 use Rattle.lsp_redact.specs.Redacting.{format_by, whole_shape}

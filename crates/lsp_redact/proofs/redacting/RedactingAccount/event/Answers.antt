@@ -1,11 +1,9 @@
 use Rattle.std.proofs.Common.{ap, refl, subst, ◌∙◌, string_bytes}
-use Rattle.lsp_replay.specs.Telling.{HasFate, ShowsFault}
+use Rattle.lsp_replay.specs.Telling.{ShowsFault}
 use Rattle.lsp_replay.specs.declared.seen.Fate.{Fate}
 use Rattle.lsp_replay.proofs.AllHeard.{kept_seen}
 use Rattle.lsp_replay.proofs.Wanting.{on_err}
-use Rattle.lsp_verdict.specs.Given.{verdict_view}
-use Rattle.lsp_verdict.specs.Heard.{heard_events}
-use Rattle.lsp_verdict.specs.Offences.{Offence}
+use Rattle.lsp_replay.specs.Common.{HasFate, heard_events, Offence, verdict_view}
 use Rattle.lsp_redact.proofs.AccountKeeps.{apart_here}
 use Rattle.lsp_redact.proofs.AccountSteps.{says_last, says_none}
 use Rattle.lsp_redact.proofs.redacting.RedactingAccount.event.Goals as goal

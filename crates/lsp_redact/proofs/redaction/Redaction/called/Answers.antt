@@ -1,9 +1,7 @@
 use Rattle.std.proofs.Common.{Option, refl, option_map, string_bytes}
 use Rattle.serde_json.specs.Data.{Data, object}
 use Rattle.serde_json.specs.View.{view}
-use Rattle.lsp_rpc.specs.Act.{Text}
-use Rattle.lsp_rpc.specs.Ident.{Ident, id_view}
-use Rattle.lsp_rpc.specs.View.{act_view}
+use Rattle.lsp_replay.specs.Common.{act_view, id_view, Ident, Text}
 use Rattle.lsp_redact.specs.Messages.{call_members, id_data, params_of}
 use Rattle.lsp_redact.specs.Names.{call_names, shown_id, shown_method, written_method}
 use Rattle.lsp_redact.specs.Naming.{Writes}

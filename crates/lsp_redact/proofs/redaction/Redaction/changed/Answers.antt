@@ -1,8 +1,7 @@
 use Rattle.std.proofs.Common.{refl, map, w32}
 use Rattle.std.proofs.lemmas.Int.{to_z-of_z}
 use Rattle.serde_json.specs.View.{view}
-use Rattle.lsp_rpc.specs.Act.{Text}
-use Rattle.lsp_rpc.specs.View.{changes_view}
+use Rattle.lsp_replay.specs.Common.{changes_view, Text}
 use Rattle.lsp_redact.specs.Messages.{changed_data}
 use Rattle.lsp_redact.specs.Shown.{shown_change}
 use Rattle.lsp_redact.proofs.Showing.{shows_made}

@@ -1,8 +1,6 @@
 use Rattle.std.proofs.Common.{Option, List, map, option_map, subst}
 use Rattle.serde_json.specs.View.{view}
-use Rattle.lsp_rpc.specs.Act.{Text}
-use Rattle.lsp_rpc.specs.Ident.{Ident, id_view}
-use Rattle.lsp_rpc.specs.View.{texts_view}
+use Rattle.lsp_replay.specs.Common.{id_view, Ident, Text, texts_view}
 use Rattle.lsp_redact.specs.Messages.{id_data, offer_of, offered_data}
 use Rattle.lsp_redact.specs.Names.{given_names, offered_names, shown_encoding, shown_id}
 use Rattle.lsp_redact.specs.Naming.{Writes}

@@ -1,8 +1,7 @@
 use Rattle.std.proofs.Common.{◌∷◌, [], List, String, Global, map, string_bytes, subst, ap}
 use Rattle.std.proofs.lemmas.List.{take_all}
 use Rattle.serde_json.specs.View.{view}
-use Rattle.lsp_rpc.specs.Act.{Text}
-use Rattle.lsp_rpc.specs.View.{texts_view}
+use Rattle.lsp_replay.specs.Common.{Text, texts_view}
 use Rattle.lsp_redact.specs.Messages.{list, registration_data}
 use Rattle.lsp_redact.specs.Names.{method_names, shown_method, written_method}
 use Rattle.lsp_redact.specs.Naming.{Shows, Writes}

@@ -1,8 +1,7 @@
 use Rattle.std.proofs.Common.{ap, subst, sym, ◌∙◌, option_map}
 use Rattle.serde_json.specs.Data.{Data, object}
 use Rattle.serde_json.specs.View.{view}
-use Rattle.lsp_rpc.specs.Act.{Text}
-use Rattle.lsp_rpc.specs.Ident.{id_view}
+use Rattle.lsp_replay.specs.Common.{id_view, Text}
 use Rattle.lsp_redact.specs.Messages.{answer_members, answered_data, reply_data, reply_name}
 use Rattle.lsp_redact.specs.Names.{Names, given_names, joined, no_names, reply_names, shown_id}
 use Rattle.lsp_redact.specs.Naming.{Writes}

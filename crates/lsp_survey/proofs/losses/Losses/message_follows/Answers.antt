@@ -1,7 +1,6 @@
 use Rattle.std.specs.Prelude.{◌&&◌, ◌||◌, ◌==◌}
 use Rattle.std.proofs.Common.{◌∙◌, ap}
-use Rattle.lsp_rpc.specs.View.{message_view}
-use Rattle.lsp_verdict.specs.Offences.{events_of, follows_passed}
+use Rattle.lsp_replay.specs.Common.{events_of, follows_passed, message_view}
 use Rattle.lsp_survey.proofs.PassedSteps.{passed_late}
 use Rattle.lsp_survey.proofs.SidesSteps.{message_late}
 use Rattle.lsp_types.specs.declared.rules.TheConstants as rules

@@ -3,8 +3,7 @@ use Rattle.std.specs.Prelude.{IfOk, OnOk, Option, Result, Ok, Err, option_map}
 use Rattle.std.proofs.Common.{◌∙◌, ap, subst, sym}
 use Rattle.std.proofs.lemmas.Result.{IfOk-weaker}
 use Rattle.lsp_verdict.specs.Given.{raw_view}
-use Rattle.lsp_replay.specs.Telling.{MaySpeak, kept_before}
-use Rattle.lsp_rpc.specs.declared.act.Spoken.{Spoken}
+use Rattle.lsp_replay.specs.Common.{kept_before, MaySpeak, Spoken}
 use Rattle.lsp_survey.proofs.Losing.{frames_lost, message_lost, shown_lost, unread_lost}
 use Rattle.lsp_survey.proofs.losses.Losses.offend.Goals as goal
 

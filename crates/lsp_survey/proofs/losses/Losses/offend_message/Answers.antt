@@ -1,16 +1,12 @@
 use Rattle.std.specs.Prelude.{◌||◌, ◌==◌, option_map}
 use Rattle.std.proofs.Common.{◌∙◌, Some, None, false, ap, subst, sym}
-use Rattle.lsp_docs.specs.Documents.{Terms}
-use Rattle.lsp_docs.specs.Taken.{call_view}
-use Rattle.lsp_rpc.specs.View.{message_view}
+use Rattle.lsp_replay.specs.Common.{breaks_handshake, call_view, calls, events_of, is_on_lost}
+use Rattle.lsp_replay.specs.Common.{is_reopened, kept_of, leaves_unsynced, message_view, Terms}
 use Rattle.lsp_types.specs.declared.rules.TheConstants as rules
 use Rattle.lsp_survey.specs.Lost.{follows_of}
 use Rattle.lsp_survey.specs.Notes.{Leaves, Passes, sides_read}
 use Rattle.lsp_survey.specs.declared.losses.Losses.{Losses}
 use Rattle.lsp_survey.specs.declared.notes.passed.Passed.{Passed}
-use Rattle.lsp_verdict.specs.Event.{calls}
-use Rattle.lsp_verdict.specs.Offences.{breaks_handshake, events_of, is_on_lost, is_reopened, kept_of}
-use Rattle.lsp_verdict.specs.Offences.{leaves_unsynced}
 use Rattle.lsp_survey.proofs.PassedSteps.{message_initialized, message_passes, message_unheard}
 use Rattle.lsp_survey.proofs.SidesSteps.{message_after, message_answers}
 use Rattle.lsp_survey.proofs.losses.Losses.offend_message.Goals as goal

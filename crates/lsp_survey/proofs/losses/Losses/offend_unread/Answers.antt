@@ -1,14 +1,13 @@
 use Rattle.std.specs.Prelude.{List, Option, ℕ, ◌||◌, option_and_then}
 use Rattle.std.proofs.Common.{◌∙◌, false, None, Some, sym, ap, subst}
 use Rattle.std.proofs.Math.Bool.{or-false}
-use Rattle.lsp_rpc.specs.Ident.{Ident}
+use Rattle.lsp_replay.specs.Common.{breaks_handshake, brought_by, events_of, Ident, kept_of}
+use Rattle.lsp_replay.specs.Common.{may_answer, request_id}
 use Rattle.lsp_survey.specs.Notes.{Leaves, SetsAny}
 use Rattle.lsp_survey.specs.declared.losses.Losses.{Losses}
 use Rattle.lsp_survey.specs.declared.notes.note.Notes.{Notes}
 use Rattle.lsp_survey.specs.declared.notes.passed.Passed.{Passed}
 use Rattle.lsp_verdict.specs.Event.{fault}
-use Rattle.lsp_verdict.specs.Offences.{breaks_handshake, brought_by, events_of, kept_of}
-use Rattle.lsp_verdict.specs.Offences.{may_answer, request_id}
 use Rattle.lsp_survey.proofs.PassedSteps.{content_passes}
 use Rattle.lsp_survey.proofs.losses.Losses.offend_unread.Goals as goal
 

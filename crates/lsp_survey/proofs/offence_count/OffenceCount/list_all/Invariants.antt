@@ -1,8 +1,7 @@
 use Rattle.std.specs.Prelude.{take}
 use Rattle.std.proofs.Common.{◌≡◌, ◌++◌, List, map, string_bytes}
 use Rattle.lsp_survey.specs.Reported.{IsTally, lines_of}
-use Rattle.lsp_verdict.specs.Given.{offence_view}
-use Rattle.lsp_verdict.specs.Offences.{Offence}
+use Rattle.lsp_replay.specs.Common.{Offence, offence_view}
 use Rattle.lsp_survey.proofs.offence_count.OffenceCount.list_all.Given as goal
 
 abbrev pub invariant-loop-offence : goal.invariant-loop-offence

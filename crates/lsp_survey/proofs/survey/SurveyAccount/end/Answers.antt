@@ -1,9 +1,7 @@
 use Rattle.std.specs.Prelude.{map, option_map}
 use Rattle.std.proofs.Common.{◌++◌, ◌∙◌, ap}
 use Rattle.lsp_survey.proofs.SurveySteps.{clean_by, end_closes, few_listed}
-use Rattle.lsp_verdict.specs.Given.{offence_view, verdict_view}
-use Rattle.lsp_verdict.specs.Heard.{notes_of}
-use Rattle.lsp_verdict.specs.Offences.{offences}
+use Rattle.lsp_replay.specs.Common.{notes_of, offence_view, offences, verdict_view}
 use Rattle.lsp_survey.proofs.survey.SurveyAccount.end.Goals as goal
 
 pub returns : goal.returns

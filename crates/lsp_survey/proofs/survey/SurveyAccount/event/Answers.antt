@@ -1,14 +1,12 @@
 use Rattle.std.specs.Prelude.{◌||◌}
 use Rattle.std.proofs.Common.{◌∙◌, ◌++◌, ◌∷◌, [], None, Some, ap, refl, string_bytes, subst}
-use Rattle.lsp_replay.specs.Telling.{HasFate}
+use Rattle.lsp_replay.specs.Common.{HasFate, notes_of, Offence, offence_at}
 use Rattle.lsp_replay.proofs.AllHeard.{kept_seen}
 use Rattle.lsp_replay.proofs.Wanting.{on_err}
 use Rattle.lsp_survey.specs.Reported.{lines_of}
 use Rattle.lsp_survey.specs.SurveyRun.{event_said, has_lines}
 use Rattle.lsp_survey.proofs.SurveySteps.{kept_tally, offence_is, offence_tally, offence_wants}
 use Rattle.lsp_survey.proofs.SurveySteps.{said_on, wants_on}
-use Rattle.lsp_verdict.specs.Heard.{notes_of}
-use Rattle.lsp_verdict.specs.Offences.{Offence, offence_at}
 use Rattle.lsp_survey.proofs.survey.SurveyAccount.event.Goals as goal
 
 -- it is kept

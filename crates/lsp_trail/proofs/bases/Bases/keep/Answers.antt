@@ -2,8 +2,7 @@ use Rattle.std.proofs.Common.{◌≡◌, ◌∙◌, None, rules, subst, sym, w32
 use Rattle.std.proofs.lemmas.Int.{to_z-of_z}
 use Rattle.std.proofs.lemmas.Result.{on_ok_weaker}
 use mir.Val.{SFits}
-use Rattle.lsp_docs.specs.Calls.{Bytes}
-use Rattle.lsp_docs.specs.Taken.{call_view}
+use Rattle.lsp_replay.specs.Common.{Bytes, call_view}
 use Rattle.lsp_trail.specs.Bases.{Begun, ChangesOne, KeepsBy, ShownBy}
 use Rattle.lsp_trail.specs.declared.step.Step.{Step}
 use Rattle.lsp_trail.proofs.BasesHeld.{keeps_added, keeps_known}

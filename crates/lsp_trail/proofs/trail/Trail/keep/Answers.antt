@@ -1,17 +1,14 @@
 use Rattle.std.specs.Prelude.{option_map}
 use Rattle.std.proofs.Common.{◌∙◌, [], Option, Some, ap, refl, subst, sym}
 use Rattle.std.proofs.lemmas.Result.{on_ok_weaker}
-use Rattle.lsp_docs.specs.Calls.{uri_of}
-use Rattle.lsp_docs.specs.Taken.{call_view}
-use Rattle.lsp_replay.specs.Telling.{HasFate, kept_before, took_of}
+use Rattle.lsp_replay.specs.Common.{AreCounts, call_view, calls, HasFate, heard_events, IsNoted}
+use Rattle.lsp_replay.specs.Common.{kept_before, uri_of}
+use Rattle.lsp_replay.specs.Telling.{took_of}
 use Rattle.lsp_replay.specs.declared.seen.Fate.{Fate}
 use Rattle.lsp_replay.proofs.Following.{whose_read}
 use Rattle.lsp_replay.proofs.Seeing.{events-push}
 use Rattle.lsp_session.proofs.Steps.{option_or-none}
-use Rattle.lsp_verdict.specs.Event.{calls}
-use Rattle.lsp_verdict.specs.Given.{AreCounts, raw_view}
-use Rattle.lsp_verdict.specs.Heard.{heard_events}
-use Rattle.lsp_verdict.specs.Offences.{IsNoted}
+use Rattle.lsp_verdict.specs.Given.{raw_view}
 use Rattle.lsp_verdict.specs.Placed.{Raw}
 use Rattle.std.specs.List.{cons_option}
 use Rattle.std.specs.Option.{option_or}

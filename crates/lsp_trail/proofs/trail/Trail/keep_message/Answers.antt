@@ -1,11 +1,7 @@
 use Rattle.std.proofs.Common.{◌∙◌, ◌++◌, ◌∷◌, [], refl, subst, sym}
 use Rattle.lsp_replay.proofs.Following.{whose_read}
 use Rattle.lsp_replay.proofs.Seeing.{events-push}
-use Rattle.lsp_verdict.specs.Event.{sent_in}
-use Rattle.lsp_verdict.specs.Given.{AreCounts}
-use Rattle.lsp_verdict.specs.Heard.{heard_events}
-use Rattle.lsp_verdict.specs.Offences.{kept_of}
-use Rattle.lsp_verdict.specs.Placed.{content}
+use Rattle.lsp_replay.specs.Common.{AreCounts, content, heard_events, kept_of, sent_in}
 use Rattle.lsp_trail.proofs.Trails.{is_message, no_content, on_ok_two, trail_said}
 use Rattle.lsp_trail.proofs.trail.Trail.keep_message.Goals as goal
 
