@@ -72,6 +72,7 @@ impl Waiting {
     }
 
     /// Lets go of the snapshots of a URI that wait no more once it holds a version.
+    #[inline(always)]
     pub(crate) fn reach(&mut self, uri: &str, version: i32)
         ensures { self.new ≡ reached uri.now version self.old }
     {
@@ -168,6 +169,7 @@ fn add_first(
 }
 
 /// Drops the snapshots of a URI that wait no more at a version, and counts those of lesser ones.
+#[inline(always)]
 fn drop_reached(snapshots: &mut SnapshotMap, uri: &str, version: i32) -> u64
     ensures left { queues_in snapshots.new.entries
         ≡ keep_in uri.now (is_after version) (queues_in snapshots.old.entries) }
