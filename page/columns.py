@@ -4,7 +4,8 @@ each encoding that matters."""
 import re
 import unicodedata
 
-from session import ENCODINGS, at
+from contents import at
+from session import ENCODINGS
 from wording import printed
 
 # How many characters are shown on either side of the place.

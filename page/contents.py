@@ -1,9 +1,10 @@
-"""The contents of a log's events, in the order in which lspcheck lists them.
+"""The contents of a log's events, in the order in which lspcheck lists them, and what they say.
 
 Which frames and records there are, and which of them cannot be read, is what lspcheck says. This
 only cuts the bytes where the lengths in the log end.
 """
 
+import json
 from collections import deque
 
 from listing import SNAPSHOT
@@ -66,3 +67,55 @@ class Contents:
             return content
         except Damaged as error:
             raise Other() from error
+
+
+def at(value, *path):
+    """The member of a JSON value that is at the end of a path, or None."""
+    try:
+        for name in path:
+            if value.__class__ is str:
+                return None
+            value = value[name]
+    except (LookupError, TypeError):
+        return None
+    return value
+
+
+def key_of(id):
+    """An id as a key: 7 and "7" are different."""
+    return (type(id), id)
+
+
+def no_constant(word):
+    """Refuses NaN and the infinities, which Python takes for JSON."""
+    raise ValueError(word)
+
+
+def message_of(event, content):
+    """The JSON value of a message, or None."""
+    if event.side == SNAPSHOT or event.rule in FRAMES:
+        return None
+    try:
+        return json.loads(content.decode(), parse_constant=no_constant)
+    except (ValueError, RecursionError):
+        return None
+
+
+def describe(event, message):
+    """Gives the event of a violation, whose line has no words, those of its content."""
+    if not isinstance(message, dict):
+        return
+    params = message.get("params")
+    uri = at(params, "textDocument", "uri") or at(params, "uri")
+    event.uri = event.uri or (uri if isinstance(uri, str) else None)
+    if not event.rule:
+        return
+    method, version = message.get("method"), at(params, "textDocument", "version")
+    event.method = method if isinstance(method, str) else None
+    event.id = message.get("id")
+    is_version = isinstance(version, int) and abs(version) < 2**31
+    event.version = version if is_version and not isinstance(version, bool) else None
+    if event.method is not None:
+        event.kind = "request" if "id" in message else "notification"
+    elif "id" in message:
+        event.kind = "error" if "error" in message else "result"

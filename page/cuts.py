@@ -2,10 +2,11 @@
 first violation with what led to it."""
 
 import bisect
-import re
 
+from contents import key_of
+from lines import LINE
 from listing import EDITOR, SNAPSHOT, Listing
-from session import key_of
+from program import can_name
 
 MOST_EVENTS, MOST_BYTES = 20_000, 50_000_000
 # The first events of a session, which agree on the encoding and open documents, are always shown.
@@ -19,7 +20,6 @@ SAID_SMALL = ("the first violation, the events that explain it, and the handshak
 # In a small page, how many lines around what differs remain of both texts.
 LINES_AROUND = 3
 
-LINE = re.compile(r"[^\r\n]*(?:\r\n|\r|\n)|[^\r\n]+$")
 TEXTS = ("textDocument/didOpen", "textDocument/didSave")
 CHANGE = "textDocument/didChange"
 
@@ -153,11 +153,6 @@ def handshake_of(listing):
             if key_of(event.id) == key_of(asked.id):
                 return {asked.event, event.event}
     return {asked.event} if asked else set()
-
-
-def can_name(uri):
-    """Whether a URI can be an argument of a program."""
-    return not uri.startswith("-") and "\0" not in uri
 
 
 def checkpoints_of(runs, choice, session, first_violation):

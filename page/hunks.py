@@ -1,11 +1,9 @@
 """Where two texts differ, as `diff` marks it: from the first difference on, up to a number of
 lines."""
 
-import re
-
+from lines import LINE
 from wording import cut, visible
 
-LINE = re.compile(r"[^\r\n]*(?:\r\n|\r|\n)|[^\r\n]+$")
 # How many equal lines are shown around those that differ, and how many must follow them.
 CONTEXT = 3
 # How many lines of both texts together one difference may have.

@@ -122,3 +122,8 @@ class Program:
         done = self.run([*words, "--quiet"])
         self.check_status(words, done.returncode, done.stderr)
         return done.stdout
+
+
+def can_name(uri):
+    """Whether a URI can be an argument of a program."""
+    return not uri.startswith("-") and "\0" not in uri

@@ -4,7 +4,7 @@ import cuts
 import rules
 from in_markdown import markdown_of
 from listing import KINDS, Listing, explained
-from program import Failed, version_of
+from program import Failed, can_name, version_of
 from report_lines import Report
 from session import MOST_EXPLAINED, Session, read_session
 from smallest import case_of, smallest_of, start_smallest
@@ -29,7 +29,7 @@ def text_before(runs, said):
     """The text of a document before the message of which a position is wrong, or None."""
     verdict = said[0]
     uri = next((it["uri"] for it in said if it["is"] == "uri"), None)
-    if verdict.get("rule") not in OF_POSITIONS or uri is None or not cuts.can_name(uri):
+    if verdict.get("rule") not in OF_POSITIONS or uri is None or not can_name(uri):
         return None
     run = runs.start("text", "--all", str(verdict["number"] - 1), uri)
     return run.text() if run.wait() == 0 else None

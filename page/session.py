@@ -4,7 +4,7 @@ import json
 from array import array
 
 from blocks import json_of
-from contents import FRAMES, Contents, Other
+from contents import Contents, Other, at, describe, key_of, message_of
 from listing import KINDS, SNAPSHOT
 
 # How many violations are explained.
@@ -30,18 +30,6 @@ PLACES = {kind: place for place, kind in enumerate(KINDS)}
 TOGETHER = 1000
 # How many bytes of a log are read at once.
 BUFFER = 1 << 18
-
-
-def at(value, *path):
-    """The member of a JSON value that is at the end of a path, or None."""
-    try:
-        for name in path:
-            if value.__class__ is str:
-                return None
-            value = value[name]
-    except (LookupError, TypeError):
-        return None
-    return value
 
 
 def cut(text, most):
@@ -90,11 +78,6 @@ class Columns:
             yield name, b"[%b]" % column[:-1]
 
 
-def key_of(id):
-    """An id as a key: 7 and "7" are different."""
-    return (type(id), id)
-
-
 def shown_id(id):
     """An id as JSON text."""
     if id.__class__ is int:
@@ -129,21 +112,6 @@ class Joins:
         return self.open[event.side].get(key, (None, None))
 
 
-def no_constant(word):
-    """Refuses NaN and the infinities, which Python takes for JSON."""
-    raise ValueError(word)
-
-
-def message_of(event, content):
-    """The JSON value of a message, or None."""
-    if event.side == SNAPSHOT or event.rule in FRAMES:
-        return None
-    try:
-        return json.loads(content.decode(), parse_constant=no_constant)
-    except (ValueError, RecursionError):
-        return None
-
-
 def check_listed(event, content):
     """Fails if a message is not the one that was listed, as far as its method tells."""
     word = event.method or event.kind
@@ -151,26 +119,6 @@ def check_listed(event, content):
     is_found = event.side == SNAPSHOT or word.encode(errors="surrogatepass") in content
     if not is_found and at(message_of(event, content), "method") != event.method:
         raise Other()
-
-
-def describe(event, message):
-    """Gives the event of a violation, whose line has no words, those of its content."""
-    if not isinstance(message, dict):
-        return
-    params = message.get("params")
-    uri = at(params, "textDocument", "uri") or at(params, "uri")
-    event.uri = event.uri or (uri if isinstance(uri, str) else None)
-    if not event.rule:
-        return
-    method, version = message.get("method"), at(params, "textDocument", "version")
-    event.method = method if isinstance(method, str) else None
-    event.id = message.get("id")
-    is_version = isinstance(version, int) and abs(version) < 2**31
-    event.version = version if is_version and not isinstance(version, bool) else None
-    if event.method is not None:
-        event.kind = "request" if "id" in message else "notification"
-    elif "id" in message:
-        event.kind = "error" if "error" in message else "result"
 
 
 class Names:

@@ -9,7 +9,9 @@ import subprocess
 import tempfile
 import threading
 
-from proxy_log import PATIENCE, Feed, create, is_readable, say, write_all
+from feeds import Feed, is_readable, write_all
+from proxy_log import PATIENCE, create
+from proxy_saying import say
 from report_lines import NoObject, Report, object_of
 
 # The statuses of lspcheck after a yes, a no and a bad log, and the one of words that are unknown.
@@ -48,7 +50,7 @@ class Check(threading.Thread):
         self.errors = tempfile.TemporaryFile()
         pipes = {"stdin": subprocess.PIPE, "stdout": subprocess.PIPE, "stderr": self.errors}
         self.process = subprocess.Popen(words, **pipes)
-        self.feed = Feed(os.dup(self.process.stdin.fileno()), None)
+        self.feed = Feed(os.dup(self.process.stdin.fileno()))
         self.process.stdin.close()
         self.feed.start()
         self.start()

@@ -13,8 +13,9 @@ import time
 from urllib.parse import unquote_to_bytes
 
 import proxy_files
-import proxy_log
+from feeds import Waiting
 from proxy_files import look_at, read
+from proxy_saying import say
 from session_log import LONGEST_LINE, MOST_TEXT, MOST_URI, SNAPSHOT, TEXT, Frames, Record
 
 # How long after a save the file is read, in seconds, if nothing happens to its document: some
@@ -127,7 +128,7 @@ class Saves(threading.Thread):
 
     def __init__(self, add):
         super().__init__(daemon=True)
-        self.add, self.waiting = add, proxy_log.Waiting()
+        self.add, self.waiting = add, Waiting()
         self.put = self.waiting.put
         # The open documents by URI; for those that were saved, when they are due; and the time of
         # the editor's last bytes.
@@ -139,7 +140,7 @@ class Saves(threading.Thread):
             self.watch.start()
             self.follow()
         except Exception as error:
-            proxy_log.say(f"no more snapshots of saved files: {error!r}")
+            say(f"no more snapshots of saved files: {error!r}")
         self.waiting.end()
 
     def finish(self):
@@ -236,7 +237,7 @@ class Plugin(threading.Thread):
                 self.take_all()
             self.take_all()
         except (OSError, ValueError) as error:
-            proxy_log.say(f"{self.path}: no more snapshots: {error}")
+            say(f"{self.path}: no more snapshots: {error}")
 
     def take_all(self):
         """Takes what was written until now."""
@@ -310,5 +311,5 @@ def start(add, takes_saves, earlier):
             plugin = Plugin(path, earlier, add)
             plugin.start()
         except OSError as error:
-            proxy_log.say(f"{path}: no snapshots from a plug-in: {error.strerror}")
+            say(f"{path}: no snapshots from a plug-in: {error.strerror}")
     return saves, plugin

@@ -3,11 +3,10 @@
 from dataclasses import dataclass, replace
 from functools import cached_property
 
-from contents import Contents
+from contents import Contents, at, describe, message_of
 from listing import EDITOR, SERVER, SNAPSHOT, Event, Listing, objects_in
 from messages import encoded
 from program import Failed
-from session import at, describe, message_of
 from session_log import Record, as_records, framed
 from session_log import EDITOR as WRITTEN
 from session_log import SERVER as READ

@@ -3,10 +3,10 @@
 import re
 from dataclasses import replace
 
-from cuts import can_name
+from contents import at, key_of, message_of
 from listing import EDITOR
 from messages import opened
-from session import at, key_of, message_of
+from program import can_name
 from shrink_case import CHANGE, CLOSE, OPEN, SAVE
 
 NUMBER = re.compile(r"\bevent (\d+)")

@@ -10,9 +10,10 @@ import difflib
 import itertools
 from dataclasses import dataclass, replace
 
-from cuts import LINE, can_name
+from contents import at
+from lines import LINE
 from listing import EDITOR
-from session import at
+from program import can_name
 from shrink_case import CHANGE, OPEN, SAVE
 from shrink_events import TEXTS, word_of
 

@@ -3,9 +3,9 @@
 import copy
 from dataclasses import replace
 
+from contents import at
 from shrink_case import CHANGE, CLOSE, OPEN, SAVE
 from shrink_events import handshake_of
-from session import at
 
 # The members that rules read, in messages of each method; `*` stands for any name. The language is
 # not read, but servers want it.

@@ -13,7 +13,7 @@ import time
 
 from children import PROCESSES, Fault, has_ended, how_ended, memory_of
 from messages import key_of, notification, request, response, same_name, value_of
-from proxy_log import Feed, is_readable
+from feeds import Feed, is_readable
 from session_log import EDITOR, FIRST_LINE, SERVER, Damaged, Frames, as_records, framed
 
 # How many seconds a server may take to answer `shutdown`, to end after `exit`, and after a signal.
@@ -52,7 +52,7 @@ class Server:
         # that nothing is read that is not yet here.
         self.said, self.said_size, self.reading = b"", 0, threading.Lock()
         self.process = PROCESSES.start(command)
-        self.feed = Feed(os.dup(self.process.stdin.fileno()), None)
+        self.feed = Feed(os.dup(self.process.stdin.fileno()))
         self.process.stdin.close()
         self.feed.start()
         self.threads = [
