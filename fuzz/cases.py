@@ -7,7 +7,7 @@ is cut away, can be said in legal messages.
 import re
 from dataclasses import dataclass, replace
 
-from messages import changed, notification, opened, request
+from lsptools.base.messages import changed, notification, opened, request
 from overwriting import units
 
 LINE_END = re.compile("\r\n|\r|\n")

@@ -8,7 +8,7 @@ from dataclasses import dataclass, replace
 from cases import LINE_END, Case, Edit, Editor, Step, text_before
 from features import SEPARATORS
 from live import unlike
-from messages import changed
+from lsptools.base.messages import changed
 from questions import SELECTION, SYMBOLS
 from stores import ANYTHING, KINDS, held
 

@@ -9,12 +9,14 @@ from pathlib import Path
 
 from children import Fault
 from drive import Run, Setting, error_of
-from messages import encoded, member, notification, request
-from program import Failed, Program
+from lsptools.base.messages import encoded, member, notification, request
+from lsptools.base.program import Failed, Program
+from lsptools.base.session_log import (
+    EDITOR, FIRST_LINE, SERVER, SNAPSHOT, Record, as_records, framed,
+)
 from recording import Recording, encoding_of, read
 from sending import choose
 from servers import Tape
-from session_log import EDITOR, FIRST_LINE, SERVER, SNAPSHOT, Record, as_records, framed
 
 # The name of each kind of file, by its language; the language that a server is for, by its name;
 # and both are asked for where they are not known.

@@ -14,7 +14,7 @@ from features import OPENING, PLAIN, features_of
 from greeting import Greeting
 from languages import forms_of
 from live import Live
-from program import Failed
+from lsptools.base.program import Failed
 from questions import SYMBOLS
 from recording import Document
 from servers import Ended

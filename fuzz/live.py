@@ -10,7 +10,7 @@ from cases import Case, Editor, Sent
 from comparison import CHANGED, OPENED, at_fault
 from drive import Run, error_of
 from greeting import Journal
-from messages import member, notification
+from lsptools.base.messages import member, notification
 from overwriting import overwriting
 from questions import SYMBOLS, Key, compared, names_of, params_of, passes
 

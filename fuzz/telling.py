@@ -5,14 +5,14 @@ import os
 import sys
 import time
 
-import outputs
 from children import PROCESSES
 from hunt import Hunt
-from messages import member, value_of
-from program import Failed
+from lsptools.base import outputs
+from lsptools.base.messages import member, value_of
+from lsptools.base.program import Failed
+from lsptools.base.script import quoted, write
 from report import Report, cut
 from schedule import Schedule
-from script import quoted, write
 
 # How often a terminal is told how far the hunt is, in seconds; and how much of a text a line shows.
 EVERY, MOST_SHOWN = 0.5, 60

@@ -12,13 +12,13 @@ from pathlib import Path
 
 TOP = Path(__file__).resolve().parent.parent
 WEB, PAGE = TOP / "web", TOP / "page"
-sys.path += [str(TOP / "recorders"), str(PAGE)]
+sys.path += [str(TOP / "scripts"), str(PAGE)]
 
-import document  # noqa: E402
-import in_markdown  # noqa: E402
-import report_lines  # noqa: E402
-import rules  # noqa: E402
-from wasm_module import Refused, output  # noqa: E402
+import document
+import in_markdown
+import rules
+from lsptools.base import report_lines
+from wasm_module import Refused, output
 
 # What the command for Node has in place of its module and its build.
 OF_MODULE = 'readFileSync(new URL("lspcheck.wasm", import.meta.url))'

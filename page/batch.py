@@ -5,15 +5,15 @@ import tempfile
 from collections import Counter
 from contextlib import closing
 
-import outputs
 from document import write_page
-from files import Log
 from folder import Folder, summary_of
+from lsptools.base import outputs
+from lsptools.base.files import Log
+from lsptools.base.program import Program, find_program, version_of
+from lsptools.base.script import put, quoted
 from many import Told, each
 from parallel import Runs
-from program import Program, find_program, version_of
 from reading import Reading
-from script import put, quoted
 from summary import pieces_of
 
 # How the names of folders for a while begin.

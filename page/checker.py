@@ -4,7 +4,7 @@ import os
 from pathlib import Path
 
 from blocks import compressed, write_block
-from program import Failed
+from lsptools.base.program import Failed
 
 HERE = Path(__file__).resolve().parent
 # Next to this folder in a package, and where package/wasm is told to write in a clone.

@@ -4,7 +4,7 @@ each encoding that matters."""
 import re
 import unicodedata
 
-from contents import at
+from lsptools.base.contents import at
 from session import ENCODINGS
 from wording import printed
 

@@ -3,10 +3,10 @@ first violation with what led to it."""
 
 import bisect
 
-from contents import key_of
-from lines import LINE
-from listing import EDITOR, SNAPSHOT, Listing
-from program import can_name
+from lsptools.base.contents import key_of
+from lsptools.base.lines import LINE
+from lsptools.base.listing import EDITOR, SNAPSHOT, Listing
+from lsptools.base.program import can_name
 
 MOST_EVENTS, MOST_BYTES = 20_000, 50_000_000
 # The first events of a session, which agree on the encoding and open documents, are always shown.

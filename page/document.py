@@ -7,7 +7,7 @@ from pathlib import Path
 import blocks
 import checker
 import modules
-from files import MARK
+from lsptools.base.files import MARK
 from reading import Reading
 from smallest import number_of_events
 from wording import plain

@@ -6,9 +6,9 @@ from collections import Counter
 from pathlib import Path
 
 from document import hash_of
-from files import MARK, new_file
-from program import Failed
-from script import quoted
+from lsptools.base.files import MARK, new_file
+from lsptools.base.program import Failed
+from lsptools.base.script import quoted
 from wording import counted, cut, plain, sentence_of, short_name, visible
 
 HERE = Path(__file__).resolve().parent

@@ -1,7 +1,7 @@
 """Where two texts differ, as `diff` marks it: from the first difference on, up to a number of
 lines."""
 
-from lines import LINE
+from lsptools.base.lines import LINE
 from wording import cut, visible
 
 # How many equal lines are shown around those that differ, and how many must follow them.

@@ -8,9 +8,9 @@ import sys
 import time
 import traceback
 
+from lsptools.base.program import PATIENCE, Failed, end_in_words
+from lsptools.base.stops import Stopped, held
 from parallel import Line
-from program import PATIENCE, Failed, end_in_words
-from stops import Stopped, held
 
 
 class Told:

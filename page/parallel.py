@@ -6,9 +6,9 @@ import sys
 import tempfile
 import time
 
-from listing import objects_in
-from program import Failed, end, printable, status_within
-from stops import held
+from lsptools.base.listing import objects_in
+from lsptools.base.program import Failed, end, printable, status_within
+from lsptools.base.stops import held
 
 MEGABYTE = 1_000_000
 # For how many seconds a program is waited for before anything else is done.

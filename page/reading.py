@@ -3,9 +3,9 @@
 import cuts
 import rules
 from in_markdown import markdown_of
-from listing import KINDS, Listing, explained
-from program import Failed, can_name, version_of
-from report_lines import Report
+from lsptools.base.listing import KINDS, Listing, explained
+from lsptools.base.program import Failed, can_name, version_of
+from lsptools.base.report_lines import Report
 from session import MOST_EXPLAINED, Session, read_session
 from smallest import case_of, smallest_of, start_smallest
 

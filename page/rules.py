@@ -3,7 +3,7 @@
 import re
 from pathlib import Path
 
-from program import Failed
+from lsptools.base.program import Failed
 
 HERE = Path(__file__).resolve().parent
 # Next to this file in a package, and in docs in the repository. It is the same file.

@@ -4,8 +4,8 @@ import json
 from array import array
 
 from blocks import json_of
-from contents import Contents, Other, at, describe, key_of, message_of
-from listing import KINDS, SNAPSHOT
+from lsptools.base.contents import Contents, Other, at, describe, key_of, message_of
+from lsptools.base.listing import KINDS, SNAPSHOT
 
 # How many violations are explained.
 MOST_EXPLAINED = 500

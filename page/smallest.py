@@ -6,8 +6,8 @@ import os
 import time
 from pathlib import Path
 
-from program import Failed, Program, end, printable
-from session_log import SERVER, SNAPSHOT, Frames, records
+from lsptools.base.program import Failed, Program, end, printable
+from lsptools.base.session_log import SERVER, SNAPSHOT, Frames, records
 
 SHRINK = Path(__file__).resolve().parent.parent / "recorders/shrink"
 # What it answers if there is no violation to show, or none of a message or a snapshot.

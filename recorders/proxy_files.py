@@ -12,7 +12,7 @@ import stat
 import struct
 import threading
 
-from session_log import MOST_TEXT
+from lsptools.base.session_log import MOST_TEXT
 
 # How long nobody looks at a file whose folder isn't watched, in milliseconds.
 PAUSE = 20

@@ -15,8 +15,8 @@ import threading
 import time
 
 import proxy_snapshots
-import session_log
-from feeds import Waiting, write_all
+from lsptools.base import session_log
+from lsptools.base.feeds import Waiting, write_all
 from proxy_saying import say
 
 # How much of what the server writes before the editor's first byte is kept back.

@@ -1,6 +1,6 @@
 """What the proxy says on standard error."""
 
-from feeds import write_all
+from lsptools.base.feeds import write_all
 
 
 def say(text):

@@ -13,10 +13,12 @@ import time
 from urllib.parse import unquote_to_bytes
 
 import proxy_files
-from feeds import Waiting
+from lsptools.base.feeds import Waiting
+from lsptools.base.session_log import (
+    LONGEST_LINE, MOST_TEXT, MOST_URI, SNAPSHOT, TEXT, Frames, Record,
+)
 from proxy_files import look_at, read
 from proxy_saying import say
-from session_log import LONGEST_LINE, MOST_TEXT, MOST_URI, SNAPSHOT, TEXT, Frames, Record
 
 # How long after a save the file is read, in seconds, if nothing happens to its document: some
 # editors send `didSave` first, and half a second later the change that they have saved.

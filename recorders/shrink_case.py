@@ -3,14 +3,13 @@
 from dataclasses import dataclass, replace
 from functools import cached_property
 
-from contents import Contents, at, describe, message_of
-from listing import EDITOR, SERVER, SNAPSHOT, Event, Listing, objects_in
-from messages import encoded
-from program import Failed
-from session_log import Record, as_records, framed
-from session_log import EDITOR as WRITTEN
-from session_log import SERVER as READ
-from session_log import SNAPSHOT as TEXT
+from lsptools.base.contents import Contents, at, describe, message_of
+from lsptools.base.listing import EDITOR, SERVER, SNAPSHOT, Event, Listing, objects_in
+from lsptools.base.messages import encoded
+from lsptools.base.program import Failed
+from lsptools.base.session_log import (
+    EDITOR as WRITTEN, SERVER as READ, SNAPSHOT as TEXT, Record, as_records, framed,
+)
 
 KINDS = {EDITOR: WRITTEN, SERVER: READ}
 OPEN, CHANGE = "textDocument/didOpen", "textDocument/didChange"

@@ -3,10 +3,10 @@
 import re
 from dataclasses import replace
 
-from contents import at, key_of, message_of
-from listing import EDITOR
-from messages import opened
-from program import can_name
+from lsptools.base.contents import at, key_of, message_of
+from lsptools.base.listing import EDITOR
+from lsptools.base.messages import opened
+from lsptools.base.program import can_name
 from shrink_case import CHANGE, CLOSE, OPEN, SAVE
 
 NUMBER = re.compile(r"\bevent (\d+)")

@@ -7,8 +7,8 @@ import subprocess
 import sys
 import time
 
-from program import Failed, end, printable
-from stops import held
+from lsptools.base.program import Failed, end, printable
+from lsptools.base.stops import held
 
 EVENT = re.compile(r"\bevent \d+ (editor|server|snapshot) \d+")
 # Lines that stay to the letter.

@@ -10,10 +10,10 @@ import difflib
 import itertools
 from dataclasses import dataclass, replace
 
-from contents import at
-from lines import LINE
-from listing import EDITOR
-from program import can_name
+from lsptools.base.contents import at
+from lsptools.base.lines import LINE
+from lsptools.base.listing import EDITOR
+from lsptools.base.program import can_name
 from shrink_case import CHANGE, OPEN, SAVE
 from shrink_events import TEXTS, word_of
 

@@ -1,6 +1,6 @@
 """Writes the editor's messages as `clangd -lit-test` reads them."""
 
-from listing import EDITOR
+from lsptools.base.listing import EDITOR
 
 
 def lit_of(case, lines, client):

@@ -3,7 +3,7 @@
 import copy
 from dataclasses import replace
 
-from contents import at
+from lsptools.base.contents import at
 from shrink_case import CHANGE, CLOSE, OPEN, SAVE
 from shrink_events import handshake_of
 

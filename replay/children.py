@@ -9,7 +9,7 @@ import threading
 import time
 from pathlib import Path
 
-from program import Failed
+from lsptools.base.program import Failed
 
 PAGE = os.sysconf("SC_PAGE_SIZE")
 # How many seconds a process may take to end after its output has.

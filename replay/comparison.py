@@ -6,7 +6,7 @@ from dataclasses import dataclass, replace
 from asking import Plan, answers_of, is_settled, last_of, told
 from drive import Run, at_once
 from languages import PLAIN, forms_of
-from messages import member
+from lsptools.base.messages import member
 from overwriting import overwriting
 from questions import (
     DIAGNOSTICS,

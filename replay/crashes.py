@@ -8,7 +8,7 @@ import questions
 from comparison import replaying, texts_after, uris_from
 from drive import GREETING, Run
 from halving import first_of
-from messages import Message
+from lsptools.base.messages import Message
 from servers import Ended, TimedOut
 from witness import MOST_LINES
 

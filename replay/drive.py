@@ -5,9 +5,9 @@ import threading
 from concurrent.futures import ThreadPoolExecutor
 from functools import lru_cache
 
-import messages
 from children import Fault
-from messages import Message, key_of, member
+from lsptools.base import messages
+from lsptools.base.messages import Message, key_of, member
 from recording import AT_THE_END, encoding_of
 from replies import Replies
 from servers import Server, TimedOut

@@ -8,7 +8,7 @@ from pathlib import Path
 from urllib.parse import quote, unquote
 
 from children import PROCESSES
-from messages import encoded, member
+from lsptools.base.messages import encoded, member
 
 # Members that hold a document's text, which stays as it is.
 TEXTS = ("text", "newText")

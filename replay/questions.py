@@ -5,7 +5,7 @@ import re
 from contextlib import suppress
 from dataclasses import dataclass
 
-from messages import member
+from lsptools.base.messages import member
 from overwriting import lines_of, units
 from servers import PUBLISHED, TimedOut
 

@@ -5,9 +5,11 @@ import re
 from collections import defaultdict
 from dataclasses import dataclass, field
 
-from messages import Message, member, message_of, value_of
-from program import Failed
-from session_log import EDITOR, FIRST_LINE, SERVER, SNAPSHOT, Damaged, Frames, Record, records
+from lsptools.base.messages import Message, member, message_of, value_of
+from lsptools.base.program import Failed
+from lsptools.base.session_log import (
+    EDITOR, FIRST_LINE, SERVER, SNAPSHOT, Damaged, Frames, Record, records,
+)
 
 NO = re.compile(r"no \d+ \w+ \d+ event (\d+)")
 BAD_LOG = re.compile(r"bad log \S+ record (\d+)")

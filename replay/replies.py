@@ -2,7 +2,7 @@
 
 from collections import deque
 
-from messages import items_of, key_of
+from lsptools.base.messages import items_of, key_of
 from shapes import DONE
 
 METHOD_NOT_FOUND = {"code": -32601, "message": "Method not found"}

@@ -7,8 +7,8 @@ import threading
 from children import PROCESSES, Fault
 from comparison import differing
 from drive import error_of, named, place
+from lsptools.base.script import put, quoted
 from questions import DIFFERS, NOTHING, VIEW, bare
-from script import put, quoted
 
 # The most characters of an answer in a line, and how many of them precede what is different.
 MOST_SHOWN, BEFORE = 200, 40

@@ -6,7 +6,7 @@ from children import Fault
 from comparison import differing
 from drive import at_once
 from halving import first_of
-from messages import Message
+from lsptools.base.messages import Message
 from questions import SAME
 from small_case import SmallCase
 

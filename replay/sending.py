@@ -8,7 +8,7 @@ from contextlib import suppress
 
 import shapes
 from folders import path_in
-from messages import encoded, key_of, member, notification, value_of
+from lsptools.base.messages import encoded, key_of, member, notification, value_of
 from shapes import Unfit, kept
 
 # The members of every message.

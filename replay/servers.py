@@ -12,9 +12,11 @@ import threading
 import time
 
 from children import PROCESSES, Fault, has_ended, how_ended, memory_of
-from messages import key_of, notification, request, response, same_name, value_of
-from feeds import Feed, is_readable
-from session_log import EDITOR, FIRST_LINE, SERVER, Damaged, Frames, as_records, framed
+from lsptools.base.feeds import Feed, is_readable
+from lsptools.base.messages import key_of, notification, request, response, same_name, value_of
+from lsptools.base.session_log import (
+    EDITOR, FIRST_LINE, SERVER, Damaged, Frames, as_records, framed,
+)
 
 # How many seconds a server may take to answer `shutdown`, to end after `exit`, and after a signal.
 LAST_ANSWER, AFTER_EXIT, AFTER_SIGNAL = 5, 5, 1

@@ -6,10 +6,12 @@ from contextlib import suppress
 from comparison import differing, replaying, texts_after, uris_from
 from drive import Run
 from halving import first_of
-from messages import message_of
-from program import Program
+from lsptools.base.messages import message_of
+from lsptools.base.program import Program
+from lsptools.base.session_log import (
+    EDITOR, FIRST_LINE, SERVER, SNAPSHOT, Frames, as_records, framed,
+)
 from servers import Ended
-from session_log import EDITOR, FIRST_LINE, SERVER, SNAPSHOT, Frames, as_records, framed
 
 
 class SmallCase:

@@ -8,13 +8,13 @@ import children
 from comparison import Comparison
 from crashes import CrashSearch
 from drive import Run, Setting
+from lsptools.base.program import Failed
+from lsptools.base.script import quoted, write
 from overwriting import lines_of
 from points import Asked, has_answers
-from program import Failed
 from questions import DIAGNOSTICS, NOTHING, SYMBOLS, compared, names_of
 from recording import read
 from report import shown
-from script import quoted, write
 from search import Search
 from sending import choose
 from servers import Ended, Tape, TimedOut

@@ -8,11 +8,11 @@ import signal
 import tempfile
 import threading
 
-import outputs
 from children import PROCESSES
-from program import Failed
+from lsptools.base import outputs
+from lsptools.base.program import Failed
+from lsptools.base.stops import STOPS, end_by
 from report import WRITING
-from stops import STOPS, end_by
 
 # What ends such a command, also `^\\` on a terminal. There, no file of its memory is written.
 ENDS = (*STOPS, signal.SIGQUIT)

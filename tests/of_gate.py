@@ -13,7 +13,8 @@ from processes import SIGNALS, is_running, until, with_signals
 TOP = Path(__file__).resolve().parent.parent
 
 # What ./test is made of.
-GATE = ["test", "tests/gate.py", "tests/side_by_side.py", "recorders/outputs.py", "page/stops.py"]
+SCRIPTS = "scripts/lsptools"
+GATE = ["test", "tests/gate.py", "tests/side_by_side.py"]
 
 # The scripts that ./test runs without the proved program, and those that need it; and all that ./test
 # quick runs.
@@ -79,6 +80,7 @@ def lay_out(top, failing=(), seconds=0):
     for path in GATE:
         (top / path).parent.mkdir(parents=True, exist_ok=True)
         shutil.copy(TOP / path, top / path)
+    shutil.copytree(TOP / SCRIPTS / "base", top / SCRIPTS / "base", dirs_exist_ok=True)
     (top / "README.md").write_text("logic\n0123abcd\n")
     (top / "log").touch()
 
@@ -247,8 +249,8 @@ def ran(names, failing, crashed=None):
             lines = f"echo {top}/program" if path == "run" else f'case "$*" in *--list*) echo {kind}/late; exit;; esac'
             lines += "\nexit 1" if path == failing else ""
             stub(top / path, "#!/bin/sh\n" + ("exit 1" if path == crashed else lines))
-        (top / "recorders").mkdir(exist_ok=True)
-        for path in ["tests/run", "recorders/outputs.py", "tests/programs.py"]:
+        shutil.copytree(TOP / SCRIPTS / "base", top / SCRIPTS / "base", dirs_exist_ok=True)
+        for path in ["tests/run", "tests/programs.py"]:
             shutil.copy(TOP / path, top / path)
         return subprocess.run([top / "tests/run", *names], capture_output=True).returncode
 

@@ -11,15 +11,14 @@ from hunts import TOP, check, side_by_side
 
 sys.path += [str(TOP / it) for it in ("fuzz", "replay", "page")]
 
-import editing  # noqa: E402
-import features  # noqa: E402
-import greeting  # noqa: E402
-import languages  # noqa: E402
-import messages  # noqa: E402
-import session_log  # noqa: E402
-import shrinking  # noqa: E402
-import stores  # noqa: E402
-from cases import Editor  # noqa: E402
+import editing
+import features
+import greeting
+import languages
+import shrinking
+import stores
+from cases import Editor
+from lsptools.base import messages, session_log
 
 # How many sessions of each kind, and in which encodings.
 TIMES, MANY, ENCODINGS = 3, 40, ("utf-16", "utf-8", "utf-32")

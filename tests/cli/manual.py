@@ -13,13 +13,13 @@ SOURCES = {
         "recorders/node/*.cjs",
         "recorders/python/*.py",
     ],
-    "lspcheck-page": ["page/lspcheck-page", "page/*.py"],
+    "lspcheck-page": ["page/lspcheck-page", "page/*.py", "scripts/lsptools/base/*.py"],
     "lspcheck-replay": ["replay/lspcheck-replay", "replay/*.py"],
     "lspcheck-fuzz": ["fuzz/lspcheck-fuzz", "fuzz/*.py"],
     "lspcheck-proxy": ["recorders/proxy", "recorders/proxy_*.py", "recorders/vscode/*.js"],
-    "lspcheck-from-trace": ["recorders/from-trace", "recorders/session_log.py"],
+    "lspcheck-from-trace": ["recorders/from-trace", "scripts/lsptools/base/*.py"],
     "lspcheck-shrink": ["recorders/shrink", "recorders/shrink_*.py"],
-    "lspcheck-without": ["recorders/without", "recorders/outputs.py"],
+    "lspcheck-without": ["recorders/without", "scripts/lsptools/base/*.py"],
 }
 VARIABLE = re.compile(r"(?:environ(?:\.get\(|\[)\"|getenv(?: |\()\"|env::var(?:_os)?\(\"|process\.env\.|empty\(\$)(\w+)")
 

@@ -13,7 +13,7 @@ from pathlib import Path
 from processes import SECONDS, Skipped, until
 from session import PROXY, PYTHON, SERVER, TRACED, Editor
 
-sys.path.insert(0, str(PROXY.parent))
+sys.path[:0] = [str(PROXY.parent), str(PROXY.parent.parent / "scripts")]
 import proxy_log  # noqa: E402
 
 

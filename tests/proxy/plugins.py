@@ -7,7 +7,7 @@ import time
 from processes import SECONDS
 from session import PROXY, Editor, snapshot
 
-sys.path.insert(0, str(PROXY.parent))
+sys.path[:0] = [str(PROXY.parent), str(PROXY.parent.parent / "scripts")]
 import proxy_snapshots  # noqa: E402
 
 

@@ -15,7 +15,7 @@ import time
 from processes import until
 from session import PROMPT, PROXY, QUIET, TIMES, TOGETHER, Editor, put, sent
 
-sys.path.insert(0, str(PROXY.parent))
+sys.path[:0] = [str(PROXY.parent), str(PROXY.parent.parent / "scripts")]
 import proxy_files  # noqa: E402
 
 SAVES = 20

@@ -27,12 +27,12 @@ from pathlib import Path
 sys.dont_write_bytecode = True
 
 PROXY = Path(__file__).resolve().parent.parent.parent / "recorders/proxy"
-sys.path.insert(0, str(PROXY.parent))
+sys.path[:0] = [str(PROXY.parent), str(PROXY.parent.parent / "scripts")]
 
-import outputs  # noqa: E402
-import proxy_files  # noqa: E402
-import proxy_log  # noqa: E402
-import proxy_snapshots  # noqa: E402
+import proxy_files
+import proxy_log
+import proxy_snapshots
+from lsptools.base import outputs
 
 
 def load():

@@ -7,8 +7,8 @@ import sys
 import tempfile
 from contextlib import contextmanager
 
-from program import Failed
-from script import put, quoted
+from lsptools.base.program import Failed
+from lsptools.base.script import put, quoted
 
 # The first bytes of a page, and of a log.
 MARK = b"<!doctype html><!-- lspcheck-page -->"

@@ -6,7 +6,7 @@ import signal
 import subprocess
 from pathlib import Path
 
-from stops import held
+from lsptools.base.stops import held
 
 # What these commands answer when they could do their work: yes or done, no, a bad log.
 ANSWERS = (0, 1, 2)

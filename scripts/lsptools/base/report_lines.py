@@ -11,7 +11,7 @@ from pathlib import Path
 
 HERE = Path(__file__).resolve().parent
 # Next to this file in a package, and in docs in the repository. It is the same file.
-PLACES = [HERE / "report.schema.json", HERE.parent / "docs/report.schema.json"]
+PLACES = [HERE / "report.schema.json", HERE.parents[2] / "docs/report.schema.json"]
 
 # What a line has for null: in most lines a dash.
 NULLS = {"codes": "end"}

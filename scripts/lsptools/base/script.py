@@ -7,8 +7,8 @@ import os
 import sys
 import tempfile
 
-from outputs import say
-from program import Failed, find_program, printable, version_of
+from lsptools.base.outputs import say
+from lsptools.base.program import Failed, find_program, printable, version_of
 
 
 class Parser(argparse.ArgumentParser):

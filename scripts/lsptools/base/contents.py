@@ -7,10 +7,9 @@ only cuts the bytes where the lengths in the log end.
 import json
 from collections import deque
 
-from listing import SNAPSHOT
-from program import Failed
-from session_log import SERVER, Damaged, Frames, records
-from session_log import SNAPSHOT as TEXT
+from lsptools.base.listing import SNAPSHOT
+from lsptools.base.program import Failed
+from lsptools.base.session_log import SERVER, SNAPSHOT as TEXT, Damaged, Frames, records
 
 # The rules of frames: one that breaks any of them has no content.
 FRAMES = range(101, 107)

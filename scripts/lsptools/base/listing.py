@@ -4,8 +4,8 @@ import json
 from dataclasses import dataclass, field
 from itertools import islice
 
-from program import Failed
-from report_lines import NoObject, object_of
+from lsptools.base.program import Failed
+from lsptools.base.report_lines import NoObject, object_of
 
 EDITOR, SERVER, SNAPSHOT = range(3)
 SIDES = {"editor": EDITOR, "server": SERVER, "snapshot": SNAPSHOT}
