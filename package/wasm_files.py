@@ -11,13 +11,11 @@ import zlib
 from pathlib import Path
 
 TOP = Path(__file__).resolve().parent.parent
-WEB, PAGE = TOP / "web", TOP / "page"
-sys.path += [str(TOP / "scripts"), str(PAGE)]
+WEB, PAGE = TOP / "web", TOP / "scripts/lsptools/page"
+sys.path.append(str(TOP / "scripts"))
 
-import document
-import in_markdown
-import rules
 from lsptools.base import report_lines
+from lsptools.page import document, in_markdown, rules
 from wasm_module import Refused, output
 
 # What the command for Node has in place of its module and its build.

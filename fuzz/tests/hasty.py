@@ -10,7 +10,7 @@ from pathlib import Path
 sys.dont_write_bytecode = True
 FUZZ = Path(__file__).resolve().parent.parent
 sys.path.insert(0, str(FUZZ))
-sys.path += [str(FUZZ.parent / folder) for folder in ("replay", "page", "scripts")]
+sys.path += [str(FUZZ.parent / folder) for folder in ("replay", "scripts")]
 
 import confirming  # noqa: E402
 import hunt  # noqa: E402

@@ -9,7 +9,7 @@ from pathlib import Path
 
 from hunts import TOP, check, side_by_side
 
-sys.path += [str(TOP / it) for it in ("fuzz", "replay", "page")]
+sys.path += [str(TOP / it) for it in ("fuzz", "replay")]
 
 import editing
 import features

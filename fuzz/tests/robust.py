@@ -9,7 +9,7 @@ import legal
 from hunts import COMMAND, TOP, check, nothing_is_left, objects_of, run, run_longer, words_of
 from processes import SECONDS, SIGNALS, until, with_signals
 
-sys.path += [str(TOP / it) for it in ("fuzz", "replay", "page")]
+sys.path += [str(TOP / it) for it in ("fuzz", "replay")]
 
 import causes  # noqa: E402
 import hunt  # noqa: E402

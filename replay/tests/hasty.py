@@ -8,7 +8,7 @@ from pathlib import Path
 sys.dont_write_bytecode = True
 REPLAY = Path(__file__).resolve().parent.parent
 sys.path.insert(0, str(REPLAY))
-sys.path += [str(REPLAY.parent / folder) for folder in ("page", "scripts")]
+sys.path.append(str(REPLAY.parent / "scripts"))
 
 import questions  # noqa: E402
 

@@ -104,7 +104,7 @@ def says_nothing_of_servers_that_it_killed(program, place):
     """It is ended by the first of several signals, and takes its time for it."""
     log, temporary, late = put(place, small_session().end()), place / "temporary", place / "late.py"
     temporary.mkdir()
-    late.write_text(LATE.format([str(COMMAND.parent.parent / it) for it in ("replay", "page", "scripts")], str(HASTY)))
+    late.write_text(LATE.format([str(COMMAND.parent.parent / it) for it in ("replay", "scripts")], str(HASTY)))
     process, children = with_muted(program, place, log, late)
     started = [int(it) for it in children.read_text().split()]
     process.send_signal(signal.SIGTERM)

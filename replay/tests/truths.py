@@ -375,7 +375,7 @@ def runs_as_many_servers_as_it_says(program, place_of):
     )
     # Where a server takes much memory, servers run one after the other.
     frugal = place_of / "frugal.py"
-    frugal.write_text(FRUGAL.format([str(TOP / it) for it in ("replay", "page", "scripts")], str(HASTY)))
+    frugal.write_text(FRUGAL.format([str(TOP / it) for it in ("replay", "scripts")], str(HASTY)))
 
     def runs_at_most(most, options, command, log, fault):
         place = place_of / f"{command.stem}-{most}"

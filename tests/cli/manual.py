@@ -13,7 +13,7 @@ SOURCES = {
         "recorders/node/*.cjs",
         "recorders/python/*.py",
     ],
-    "lspcheck-page": ["page/lspcheck-page", "page/*.py", "scripts/lsptools/base/*.py"],
+    "lspcheck-page": ["scripts/lsptools/page/*.py", "scripts/lsptools/base/*.py"],
     "lspcheck-replay": ["replay/lspcheck-replay", "replay/*.py"],
     "lspcheck-fuzz": ["fuzz/lspcheck-fuzz", "fuzz/*.py"],
     "lspcheck-proxy": ["recorders/proxy", "recorders/proxy_*.py", "recorders/vscode/*.js"],

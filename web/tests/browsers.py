@@ -15,7 +15,7 @@ from functools import partial
 from pathlib import Path
 
 TOP = Path(__file__).resolve().parent.parent.parent
-FOLDERS = ["page/tests", "tests", "tests/fuzz", "tests/golden", "tests/cli", "scripts", "page"]
+FOLDERS = ["page/tests", "tests", "tests/fuzz", "tests/golden", "tests/cli", "scripts"]
 sys.path += [str(TOP / folder) for folder in FOLDERS]
 
 import of_checkers  # noqa: E402

@@ -3,9 +3,9 @@
 import json
 from array import array
 
-from blocks import json_of
 from lsptools.base.contents import Contents, Other, at, describe, key_of, message_of
 from lsptools.base.listing import KINDS, SNAPSHOT
+from lsptools.page.blocks import json_of
 
 # How many violations are explained.
 MOST_EXPLAINED = 500

@@ -9,7 +9,7 @@ from pathlib import Path
 from lsptools.base.program import Failed, Program, end, printable
 from lsptools.base.session_log import SERVER, SNAPSHOT, Frames, records
 
-SHRINK = Path(__file__).resolve().parent.parent / "recorders/shrink"
+SHRINK = Path(__file__).resolve().parents[3] / "recorders/shrink"
 # What it answers if there is no violation to show, or none of a message or a snapshot.
 NOTHING = (1, 2)
 # How many seconds it may take, unless the user says otherwise.

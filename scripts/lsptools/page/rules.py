@@ -7,7 +7,7 @@ from lsptools.base.program import Failed
 
 HERE = Path(__file__).resolve().parent
 # Next to this file in a package, and in docs in the repository. It is the same file.
-PLACES = [HERE / "RULES.md", HERE.parent / "docs/RULES.md"]
+PLACES = [HERE / "RULES.md", HERE.parents[2] / "docs/RULES.md"]
 
 RULE = re.compile(r"\d{3}|L\d")
 LINK = re.compile(r"\[([^\]]*)\]\([^)]*\)")

@@ -3,12 +3,12 @@
 import os
 from pathlib import Path
 
-from blocks import compressed, write_block
 from lsptools.base.program import Failed
+from lsptools.page.blocks import compressed, write_block
 
-HERE = Path(__file__).resolve().parent
+TOP = Path(__file__).resolve().parents[3]
 # Next to this folder in a package, and where package/wasm is told to write in a clone.
-PLACES = [HERE.parent / "web", HERE.parent / "out/web"]
+PLACES = [TOP / "web", TOP / "out/web"]
 # The program for WebAssembly, and the script that runs it.
 MODULE, WORKER = "lspcheck.wasm", "again.js"
 PIECE = 1 << 20

@@ -5,8 +5,8 @@ import re
 import unicodedata
 
 from lsptools.base.contents import at
-from session import ENCODINGS
-from wording import printed
+from lsptools.page.session import ENCODINGS
+from lsptools.page.wording import printed
 
 # How many characters are shown on either side of the place.
 AROUND = 5

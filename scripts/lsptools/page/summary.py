@@ -1,9 +1,9 @@
 """Several logs in one text of Markdown: a table of all, and what one pastes about those with a
 violation, a fault or a note."""
 
-from folder import shown_name, totals, verdict_of
-from in_markdown import code, inert
-from wording import visible
+from lsptools.page.folder import shown_name, totals, verdict_of
+from lsptools.page.in_markdown import code, inert
+from lsptools.page.wording import visible
 
 HEADS = ["log", "verdict", "what", "editor", "server", "events", "bytes"]
 # In a table, not every program takes it for text, even in code.

@@ -4,13 +4,11 @@ import base64
 import hashlib
 from pathlib import Path
 
-import blocks
-import checker
-import modules
 from lsptools.base.files import MARK
-from reading import Reading
-from smallest import number_of_events
-from wording import plain
+from lsptools.page import blocks, checker, modules
+from lsptools.page.reading import Reading
+from lsptools.page.smallest import number_of_events
+from lsptools.page.wording import plain
 
 HERE = Path(__file__).resolve().parent
 # What shows a session, and what judges it again in a page that has the checker. What says that one

@@ -1,13 +1,12 @@
 """Reads a log for a page: what lspcheck says about it, and its events."""
 
-import cuts
-import rules
-from in_markdown import markdown_of
 from lsptools.base.listing import KINDS, Listing, explained
 from lsptools.base.program import Failed, can_name, version_of
 from lsptools.base.report_lines import Report
-from session import MOST_EXPLAINED, Session, read_session
-from smallest import case_of, smallest_of, start_smallest
+from lsptools.page import cuts, rules
+from lsptools.page.in_markdown import markdown_of
+from lsptools.page.session import MOST_EXPLAINED, Session, read_session
+from lsptools.page.smallest import case_of, smallest_of, start_smallest
 
 MOST_OF_EXIT = 2_000
 # How many violations are listed in any page; in one with more events, each that it shows is.

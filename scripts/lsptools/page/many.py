@@ -10,7 +10,7 @@ import traceback
 
 from lsptools.base.program import PATIENCE, Failed, end_in_words
 from lsptools.base.stops import Stopped, held
-from parallel import Line
+from lsptools.page.parallel import Line
 
 
 class Told:

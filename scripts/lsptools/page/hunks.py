@@ -2,7 +2,7 @@
 lines."""
 
 from lsptools.base.lines import LINE
-from wording import cut, visible
+from lsptools.page.wording import cut, visible
 
 # How many equal lines are shown around those that differ, and how many must follow them.
 CONTEXT = 3

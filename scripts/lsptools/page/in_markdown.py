@@ -11,9 +11,9 @@ import re
 import shlex
 import string
 
-from columns import table_of, text_before
-from hunks import difference
-from wording import counted, cut, sentence_of, short_name, visible
+from lsptools.page.columns import table_of, text_before
+from lsptools.page.hunks import difference
+from lsptools.page.wording import counted, cut, sentence_of, short_name, visible
 
 # How many characters of the message and of a suspect are shown, and how many lines or items.
 MOST_OF_MESSAGE, MOST_OF_SUSPECT = 600, 200

@@ -5,16 +5,16 @@ import tempfile
 from collections import Counter
 from contextlib import closing
 
-from document import write_page
-from folder import Folder, summary_of
 from lsptools.base import outputs
 from lsptools.base.files import Log
 from lsptools.base.program import Program, find_program, version_of
 from lsptools.base.script import put, quoted
-from many import Told, each
-from parallel import Runs
-from reading import Reading
-from summary import pieces_of
+from lsptools.page.document import write_page
+from lsptools.page.folder import Folder, summary_of
+from lsptools.page.many import Told, each
+from lsptools.page.parallel import Runs
+from lsptools.page.reading import Reading
+from lsptools.page.summary import pieces_of
 
 # How the names of folders for a while begin.
 PREFIX = "lspcheck-page-"

@@ -5,11 +5,11 @@ import re
 from collections import Counter
 from pathlib import Path
 
-from document import hash_of
 from lsptools.base.files import MARK, new_file
 from lsptools.base.program import Failed
 from lsptools.base.script import quoted
-from wording import counted, cut, plain, sentence_of, short_name, visible
+from lsptools.page.document import hash_of
+from lsptools.page.wording import counted, cut, plain, sentence_of, short_name, visible
 
 HERE = Path(__file__).resolve().parent
 INDEX = "index.html"
