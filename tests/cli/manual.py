@@ -16,10 +16,10 @@ SOURCES = {
     "lspcheck-page": ["scripts/lsptools/page/*.py", "scripts/lsptools/base/*.py"],
     "lspcheck-replay": ["replay/lspcheck-replay", "replay/*.py"],
     "lspcheck-fuzz": ["fuzz/lspcheck-fuzz", "fuzz/*.py"],
-    "lspcheck-proxy": ["recorders/proxy", "recorders/proxy_*.py", "recorders/vscode/*.js"],
-    "lspcheck-from-trace": ["recorders/from-trace", "scripts/lsptools/base/*.py"],
-    "lspcheck-shrink": ["recorders/shrink", "recorders/shrink_*.py"],
-    "lspcheck-without": ["recorders/without", "scripts/lsptools/base/*.py"],
+    "lspcheck-proxy": ["scripts/lsptools/proxy/*.py", "scripts/lsptools/base/*.py", "recorders/vscode/*.js"],
+    "lspcheck-from-trace": ["scripts/lsptools/trace/*.py", "scripts/lsptools/base/*.py"],
+    "lspcheck-shrink": ["scripts/lsptools/shrink/*.py", "scripts/lsptools/base/*.py"],
+    "lspcheck-without": ["scripts/lsptools/shrink/without.py", "scripts/lsptools/base/*.py"],
 }
 VARIABLE = re.compile(r"(?:environ(?:\.get\(|\[)\"|getenv(?: |\()\"|env::var(?:_os)?\(\"|process\.env\.|empty\(\$)(\w+)")
 

@@ -11,8 +11,8 @@ import threading
 
 from lsptools.base.feeds import Feed, is_readable, write_all
 from lsptools.base.report_lines import NoObject, Report, object_of
-from proxy_log import PATIENCE, create
-from proxy_saying import say
+from lsptools.proxy.log import PATIENCE, create
+from lsptools.proxy.saying import say
 
 # The statuses of lspcheck after a yes, a no and a bad log, and the one of words that are unknown.
 ANSWERS = (0, 1, 2)

@@ -12,13 +12,12 @@ import threading
 import time
 from urllib.parse import unquote_to_bytes
 
-import proxy_files
 from lsptools.base.feeds import Waiting
 from lsptools.base.session_log import (
     LONGEST_LINE, MOST_TEXT, MOST_URI, SNAPSHOT, TEXT, Frames, Record,
 )
-from proxy_files import look_at, read
-from proxy_saying import say
+from lsptools.proxy.files import Watch, look_at, read
+from lsptools.proxy.saying import say
 
 # How long after a save the file is read, in seconds, if nothing happens to its document: some
 # editors send `didSave` first, and half a second later the change that they have saved.
@@ -135,7 +134,7 @@ class Saves(threading.Thread):
         # The open documents by URI; for those that were saved, when they are due; and the time of
         # the editor's last bytes.
         self.documents, self.due, self.now = {}, {}, 0
-        self.watch = proxy_files.Watch()
+        self.watch = Watch()
 
     def run(self):
         try:

@@ -14,10 +14,13 @@ import sys
 import threading
 import time
 
-import proxy_snapshots
 from lsptools.base import session_log
 from lsptools.base.feeds import Waiting, write_all
-from proxy_saying import say
+from lsptools.proxy import snapshots
+from lsptools.proxy.saying import say
+
+# The folder of all, in which the recorders are.
+TOP = os.path.realpath(os.path.join(os.path.dirname(__file__), "../../.."))
 
 # How much of what the server writes before the editor's first byte is kept back.
 EARLY = 1 << 20
@@ -33,7 +36,7 @@ def create(path):
 
 def module():
     """The module for test suites, which names servers and refuses folders."""
-    sys.path.append(os.path.join(os.path.dirname(os.path.realpath(__file__)), "python"))
+    sys.path.append(os.path.join(TOP, "recorders/python"))
     # Only now, since the editor waited for what was imported first.
     import lspcheck_recorder
 
@@ -131,10 +134,10 @@ class Log(threading.Thread):
 
     def start_alarm(self):
         # Only now, since the editor waited for what was imported first.
-        import proxy_alarm
+        from lsptools.proxy.alarm import Alarm
 
         try:
-            self.alarm = proxy_alarm.Alarm(self.sibling("explain"))
+            self.alarm = Alarm(self.sibling("explain"))
         except OSError as error:
             say(f"lspcheck: {error.strerror}; the session is recorded but not checked")
 
@@ -191,7 +194,7 @@ def record(source, options, earlier):
         leave_session()
         log = Log(options)
         log.start()
-        saves, plugin = proxy_snapshots.start(log.put, not options.no_snapshots, earlier)
+        saves, plugin = snapshots.start(log.put, not options.no_snapshots, earlier)
         for head, data in pieces(source):
             kind, number, *when = head.split()
             log.put(b"%s %s\n%s" % (kind, number, data))

@@ -14,8 +14,8 @@ from lsptools.base.contents import at
 from lsptools.base.lines import LINE
 from lsptools.base.listing import EDITOR
 from lsptools.base.program import can_name
-from shrink_case import CHANGE, OPEN, SAVE
-from shrink_events import TEXTS, word_of
+from lsptools.shrink.case import CHANGE, OPEN, SAVE
+from lsptools.shrink.events import TEXTS, word_of
 
 # If two texts have more lines from the first that differs to the last, these stay, unless they are
 # as many in both.

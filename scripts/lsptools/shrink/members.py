@@ -4,8 +4,8 @@ import copy
 from dataclasses import replace
 
 from lsptools.base.contents import at
-from shrink_case import CHANGE, CLOSE, OPEN, SAVE
-from shrink_events import handshake_of
+from lsptools.shrink.case import CHANGE, CLOSE, OPEN, SAVE
+from lsptools.shrink.events import handshake_of
 
 # The members that rules read, in messages of each method; `*` stands for any name. The language is
 # not read, but servers want it.

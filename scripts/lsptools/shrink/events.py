@@ -7,7 +7,7 @@ from lsptools.base.contents import at, key_of, message_of
 from lsptools.base.listing import EDITOR
 from lsptools.base.messages import opened
 from lsptools.base.program import can_name
-from shrink_case import CHANGE, CLOSE, OPEN, SAVE
+from lsptools.shrink.case import CHANGE, CLOSE, OPEN, SAVE
 
 NUMBER = re.compile(r"\bevent (\d+)")
 # The rules whose explanation compares texts, and those about a message to a document that is open.
