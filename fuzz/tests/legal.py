@@ -3,22 +3,14 @@
 import random
 import shutil
 import subprocess
-import sys
 import tempfile
 from pathlib import Path
 
-from hunts import TOP, check, side_by_side
-
-sys.path += [str(TOP / it) for it in ("fuzz", "replay")]
-
-import editing
-import features
-import greeting
-import languages
-import shrinking
-import stores
-from cases import Editor
+from hunts import check, side_by_side
 from lsptools.base import messages, session_log
+from lsptools.fuzz import editing, features, greeting, shrinking, stores
+from lsptools.fuzz.cases import Editor
+from lsptools.servers import languages
 
 # How many sessions of each kind, and in which encodings.
 TIMES, MANY, ENCODINGS = 3, 40, ("utf-16", "utf-8", "utf-32")

@@ -10,13 +10,9 @@ import expected
 import sessions
 from faults import session_of
 from logs import notification, request, result
+from lsptools.servers import languages, overwriting
 from trials import HASTY, QUESTIONS, SERVER, TOP, blocks, check, named, run, side_by_side
 from usage import put
-
-sys.path.append(str(TOP / "replay"))
-
-import languages  # noqa: E402
-import overwriting  # noqa: E402
 
 URI = "file:///tmp/truth.c"
 
@@ -375,7 +371,7 @@ def runs_as_many_servers_as_it_says(program, place_of):
     )
     # Where a server takes much memory, servers run one after the other.
     frugal = place_of / "frugal.py"
-    frugal.write_text(FRUGAL.format([str(TOP / it) for it in ("replay", "scripts")], str(HASTY)))
+    frugal.write_text(FRUGAL.format([str(TOP / "scripts")], str(HASTY)))
 
     def runs_at_most(most, options, command, log, fault):
         place = place_of / f"{command.stem}-{most}"
@@ -398,7 +394,7 @@ def runs_as_many_servers_as_it_says(program, place_of):
 FRUGAL = """
 import runpy, sys
 sys.path[:0] = {0!r}
-import trial
+from lsptools.replay import trial
 trial.MUCH_MEMORY = 1
 runpy.run_path({1!r}, run_name="__main__")
 """
