@@ -34,6 +34,7 @@ GATE = [
     "tests/guarantees",
     "tests/links",
     "tests/words",
+    "tests/scripts",
     "tests/mutants/run --stale",
     PROOFS,
     COMPILES,
@@ -56,7 +57,7 @@ GATE = [
     f"package/run {PROVED}",
     f"package/completions/run {ANY} bash",
 ]
-QUICK = ["tests/guarantees", "tests/links", "tests/words", "tests/run --few", "tests/of_run"]
+QUICK = ["tests/guarantees", "tests/links", "tests/words", "tests/scripts", "tests/run --few", "tests/of_run"]
 
 # What ./run compiles, what it is made of, and what it kept.
 COPIED = ["crates.txt", "crates/*/src/**/*.rt", "run", "tests/*.py", "scripts/**/*.py", "out/lspcheck*"]

@@ -19,15 +19,15 @@ GATE = ["test", "tests/gate.py", "tests/side_by_side.py"]
 # The scripts that ./test runs without the proved program, and those that need it; and all that ./test
 # quick runs.
 UNPROVED = [
-    "tests/guarantees", "tests/links", "tests/words", "tests/mutants/run", "tests/compile-fail/run", "tests/api/run",
-    "run", "tests/of_checks", "tests/of_run", "recorders/suites", "tests/proxy/run", "recorders/traces/run",
-    "package/completions/run", "replay/run", "fuzz/run",
+    "tests/guarantees", "tests/links", "tests/words", "tests/scripts", "tests/mutants/run", "tests/compile-fail/run",
+    "tests/api/run", "run", "tests/of_checks", "tests/of_run", "recorders/suites", "tests/proxy/run",
+    "recorders/traces/run", "package/completions/run", "replay/run", "fuzz/run",
 ]
 OVER_PROVED = [
     "tests/golden/run", "tests/cli/run", "page/run", "web/run", "tests/shrink/run", "tests/redact/run", "package/run",
     "tests/faults/run",
 ]
-QUICK = ["tests/guarantees", "tests/links", "tests/words", "tests/of_run", "tests/run"]
+QUICK = ["tests/guarantees", "tests/links", "tests/words", "tests/scripts", "tests/of_run", "tests/run"]
 
 # Each script notes that it begins and ends. rt goes on until one of the others has ended, and after it
 # has said that the program is proved, until one runs over that. None gets a setting of the caller's

@@ -11,7 +11,6 @@ from processes import SECONDS
 HERE = Path(__file__).resolve().parent
 TOP = HERE.parent.parent
 JS = TOP / "scripts/lsptools/page/js"
-MOST_LINES = 500
 
 
 def passes(*words):
@@ -54,11 +53,4 @@ def modules_are_joined(program, place):
     assert run().returncode != 0
 
 
-def files_are_short(program, place):
-    """No file of the page and of its tests has more than 500 lines."""
-    files = [it for it in TOP.glob("scripts/lsptools/page/**/*") if it.is_file() and "__pycache__" not in it.parts]
-    long = {it.name: count for it in files if (count := it.read_bytes().count(b"\n")) > MOST_LINES}
-    assert not long, long
-
-
-TESTS = [scripts_are_linted, scripts_have_types, modules_are_joined, files_are_short]
+TESTS = [scripts_are_linted, scripts_have_types, modules_are_joined]

@@ -112,7 +112,7 @@ class Search:
         last = len(numbers) - 1
         whole = [it for it in range(1, last) if self.sets_whole_text(numbers[it])]
         is_wide = self.setting.jobs > 3 and len(self.setting.recording.messages) > LONG
-        is_so = lambda it: self.differs_after(numbers[it], is_sure)  # noqa: E731
+        is_so = lambda it: self.differs_after(numbers[it], is_sure)
         return numbers[first_of(0, last, is_so, whole[-1] if whole else None, is_wide)]
 
     def differs_after(self, number, is_sure):

@@ -57,7 +57,7 @@ class CrashSearch:
         return Crash(message, before, how, words, self.count(number))
 
     def count(self, number):
-        is_shown = lambda it: self.how(number, number - it) is not None  # noqa: E731
+        is_shown = lambda it: self.how(number, number - it) is not None
         if is_shown(1):
             return 1
         count = first_of(2, number, is_shown)

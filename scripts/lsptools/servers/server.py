@@ -130,7 +130,7 @@ class Server:
 
         is_known = same_name(uri) in self.publishes
         with self.condition:
-            is_done = lambda: found() or self.is_over  # noqa: E731
+            is_done = lambda: found() or self.is_over
             self.condition.wait_for(is_done, more if is_known else seconds)
             return found()
 
@@ -176,7 +176,7 @@ class Server:
     def wait(self, id, seconds):
         """The response to a request, or None if there is none in this time."""
         with self.condition:
-            is_done = lambda: id in self.answers or self.is_over  # noqa: E731
+            is_done = lambda: id in self.answers or self.is_over
             self.condition.wait_for(is_done, seconds)
             return self.answers.get(id)
 

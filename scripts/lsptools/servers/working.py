@@ -74,7 +74,7 @@ def done_in_a_thread(name, work, at_the_end):
     """Does the work of a command, which is given a folder for its files, and ends with its status.
     What is left to do at the end is done once no server runs."""
     result, number, signals = [], None, Signals()
-    done = lambda: result.append(status_of(name, work, folder))  # noqa: E731
+    done = lambda: result.append(status_of(name, work, folder))
     thread = threading.Thread(target=done, daemon=True)
     # No signal comes before it is known that there is a folder.
     mask = signal.pthread_sigmask(signal.SIG_BLOCK, ENDS)
