@@ -225,8 +225,8 @@ MISPLACED = {
     "the package as a whole": ("base/lines.py", "import re\n", "import re\nimport lsptools\n", "base imports the package"),
     "what one part uses is in a shared one": (
         "shrink/lines.py", "from lsptools.base.lines import LINE", "LINE = 1", "in base, but used by page alone"),
-    "a long file": ("base/lines.py", "import re\n", "import re\n" + "\n" * 1000, "more than 1000 lines"),
-    "a long style": ("page/page.css", "\n", "\n" * 1000, "more than 1000 lines"),
+    "a long file": ("base/lines.py", "import re\n", "import re\n" + "\n" * 500, "more than 500 lines"),
+    "a long style": ("page/page.css", "\n", "\n" * 500, "more than 500 lines"),
 }
 UNUSED = {"an import without a use": ("base/lines.py", "import re\n", "import re\nimport os\n", "'os' imported but unused")}
 

@@ -10,7 +10,7 @@ import shutil
 import subprocess
 from pathlib import Path
 
-HERE = Path(__file__).resolve().parent
+RECORDERS = Path(__file__).resolve().parent.parent
 
 SAVES, LEAST = 20, 15
 
@@ -41,7 +41,7 @@ def session(program, folder, formatter):
     """How many snapshots a session of Neovim has, and how many of them differ from their text."""
     folder.mkdir()
     (folder / "main.cpp").write_text("int main() { return 0; }\n")
-    command = f'{{ "{HERE}/proxy", "{folder}/logs", "clangd" }}'
+    command = f'{{ "{RECORDERS}/proxy", "{folder}/logs", "clangd" }}'
     lines = SESSION.replace("COMMAND", command).replace("SAVES", str(SAVES))
     (folder / "session.lua").write_text(lines.replace("FORMATTER", formatter))
     words = ["nvim", "--headless", "-u", "NONE", "-n", "main.cpp", "-c", "luafile session.lua"]

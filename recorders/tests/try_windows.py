@@ -19,7 +19,7 @@ import subprocess
 import time
 from pathlib import Path
 
-HERE = Path(__file__).resolve().parent
+RECORDERS = Path(__file__).resolve().parent.parent
 
 # A line of text and how a comment begins, by the kind of the file.
 LINES = {
@@ -254,7 +254,7 @@ def session(name, form, home, command):
     file.write_bytes(text_of(form, kind))
     window = Window(home)
     try:
-        start(window, file, [*command, str(HERE / "proxy"), str(home / "logs")])
+        start(window, file, [*command, str(RECORDERS / "proxy"), str(home / "logs")])
         window.work(LINES[kind][1])
     finally:
         window.close()

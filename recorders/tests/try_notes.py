@@ -9,7 +9,7 @@ from pathlib import Path
 
 import try_needs
 
-HERE = Path(__file__).resolve().parent
+RECORDERS = Path(__file__).resolve().parent.parent
 
 # The notes that the script writes, and which of them are shown.
 SHOWN = [
@@ -75,17 +75,17 @@ qall!
 
 def start_neovim(folder):
     (folder / "setup.lua").write_text(NEOVIM)
-    words = ["nvim", "--headless", "-u", "NONE", "--cmd", f"luafile {HERE}/neovim.lua"]
+    words = ["nvim", "--headless", "-u", "NONE", "--cmd", f"luafile {RECORDERS}/neovim.lua"]
     return [*words, "-c", "luafile setup.lua", "-c", "qall!"]
 
 
 def start_emacs(folder):
     (folder / "setup.el").write_text(EMACS)
-    return ["emacs", "-Q", "--batch", "-l", f"{HERE}/emacs.el", "-l", "setup.el"]
+    return ["emacs", "-Q", "--batch", "-l", f"{RECORDERS}/emacs.el", "-l", "setup.el"]
 
 
 def start_ale(folder):
-    (folder / "vimrc").write_text(ALE.replace("RECORDER", f"{HERE}/ale/job.vim"))
+    (folder / "vimrc").write_text(ALE.replace("RECORDER", f"{RECORDERS}/ale/job.vim"))
     return ["vim", "-u", "vimrc", "-es"]
 
 

@@ -11,7 +11,7 @@ from pathlib import Path
 
 import try_needs
 
-HERE = Path(__file__).resolve().parent
+RECORDERS = Path(__file__).resolve().parent.parent
 
 # Commands, and the server that each starts.
 COMMANDS = [
@@ -73,17 +73,17 @@ qall!
 
 def start_neovim(folder, commands):
     (folder / "setup.lua").write_text(NEOVIM.replace("COMMANDS", commands))
-    words = ["nvim", "--headless", "-u", "NONE", "--cmd", f"luafile {HERE}/neovim.lua"]
+    words = ["nvim", "--headless", "-u", "NONE", "--cmd", f"luafile {RECORDERS}/neovim.lua"]
     return [*words, "-c", "luafile setup.lua", "-c", "qall!"]
 
 
 def start_emacs(folder, commands):
     (folder / "setup.el").write_text(EMACS.replace("COMMANDS", commands))
-    return ["emacs", "-Q", "--batch", "-l", "json", "-l", f"{HERE}/emacs.el", "-l", "setup.el"]
+    return ["emacs", "-Q", "--batch", "-l", "json", "-l", f"{RECORDERS}/emacs.el", "-l", "setup.el"]
 
 
 def start_ale(folder, commands):
-    text = ALE.replace("RECORDER", f"{HERE}/ale/job.vim").replace("COMMANDS", commands)
+    text = ALE.replace("RECORDER", f"{RECORDERS}/ale/job.vim").replace("COMMANDS", commands)
     (folder / "vimrc").write_text(text)
     return ["vim", "-u", "vimrc", "-es"]
 

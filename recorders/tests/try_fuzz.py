@@ -7,7 +7,7 @@ python3-pylsp, gopls, ccls; Debian 13: gopls, rust-analyzer.
 import subprocess
 from pathlib import Path
 
-RUN = Path(__file__).resolve().parent.parent / "fuzz/run"
+RUN = Path(__file__).resolve().parents[2] / "fuzz/run"
 TESTS = ["finds_what_the_page_says", "readme_shows_what_pylsp_does"]
 
 
