@@ -11,14 +11,12 @@ import zlib
 from pathlib import Path
 
 TOP = Path(__file__).resolve().parent.parent
-WEB, PAGE = TOP / "web", TOP / "page"
-sys.path += [str(TOP / "recorders"), str(PAGE)]
+WEB, PAGE = TOP / "web", TOP / "scripts/lsptools/page"
+sys.path.append(str(TOP / "scripts"))
 
-import document  # noqa: E402
-import in_markdown  # noqa: E402
-import report_lines  # noqa: E402
-import rules  # noqa: E402
-from wasm_module import Refused, output  # noqa: E402
+from lsptools.base import report_lines
+from lsptools.page import document, in_markdown, rules
+from wasm_module import Refused, output
 
 # What the command for Node has in place of its module and its build.
 OF_MODULE = 'readFileSync(new URL("lspcheck.wasm", import.meta.url))'

@@ -17,9 +17,9 @@ from pathlib import Path
 
 sys.dont_write_bytecode = True
 TOP = Path(__file__).resolve().parent.parent
-sys.path.append(str(TOP / "recorders"))
+sys.path.append(str(TOP / "scripts"))
 
-import outputs  # noqa: E402
+from lsptools.base import outputs
 
 USE = re.compile(r"use ([\w.]+?)(?:\.\{(.*)\}| as (\w+))?$")
 GHOST_USE = re.compile(r"^ghost use ([\w.]+)\.\{(.*)\};$", re.M)

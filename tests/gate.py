@@ -16,11 +16,11 @@ from pathlib import Path
 
 sys.dont_write_bytecode = True
 TOP = Path(__file__).resolve().parent.parent
-sys.path += [str(TOP / folder) for folder in ("recorders", "page")]
+sys.path.append(str(TOP / "scripts"))
 
-import outputs  # noqa: E402
-from side_by_side import Task, adopt, end_children, run_all  # noqa: E402
-from stops import Stopped, catch, end_by  # noqa: E402
+from lsptools.base import outputs
+from lsptools.base.stops import Stopped, catch, end_by
+from side_by_side import Task, adopt, end_children, run_all
 
 PROOFS = "./run --prove ci"
 COMPILES = "./run --program"
@@ -34,6 +34,7 @@ GATE = [
     "tests/guarantees",
     "tests/links",
     "tests/words",
+    "tests/scripts",
     "tests/mutants/run --stale",
     PROOFS,
     COMPILES,
@@ -56,10 +57,10 @@ GATE = [
     f"package/run {PROVED}",
     f"package/completions/run {ANY} bash",
 ]
-QUICK = ["tests/guarantees", "tests/links", "tests/words", "tests/run --few", "tests/of_run"]
+QUICK = ["tests/guarantees", "tests/links", "tests/words", "tests/scripts", "tests/run --few", "tests/of_run"]
 
 # What ./run compiles, what it is made of, and what it kept.
-COPIED = ["crates.txt", "crates/*/src/**/*.rt", "run", "tests/*.py", "recorders/*.py", "page/*.py", "out/lspcheck*"]
+COPIED = ["crates.txt", "crates/*/src/**/*.rt", "run", "tests/*.py", "scripts/**/*.py", "out/lspcheck*"]
 
 # What rt ci says when it has proved a crate.
 IS_PROVED = re.compile(rb"^rt: (\w+) proved$", re.MULTILINE)

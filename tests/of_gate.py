@@ -13,20 +13,21 @@ from processes import SIGNALS, is_running, until, with_signals
 TOP = Path(__file__).resolve().parent.parent
 
 # What ./test is made of.
-GATE = ["test", "tests/gate.py", "tests/side_by_side.py", "recorders/outputs.py", "page/stops.py"]
+SCRIPTS = "scripts/lsptools"
+GATE = ["test", "tests/gate.py", "tests/side_by_side.py"]
 
 # The scripts that ./test runs without the proved program, and those that need it; and all that ./test
 # quick runs.
 UNPROVED = [
-    "tests/guarantees", "tests/links", "tests/words", "tests/mutants/run", "tests/compile-fail/run", "tests/api/run",
-    "run", "tests/of_checks", "tests/of_run", "recorders/suites", "tests/proxy/run", "recorders/traces/run",
-    "package/completions/run", "replay/run", "fuzz/run",
+    "tests/guarantees", "tests/links", "tests/words", "tests/scripts", "tests/mutants/run", "tests/compile-fail/run",
+    "tests/api/run", "run", "tests/of_checks", "tests/of_run", "recorders/suites", "tests/proxy/run",
+    "recorders/traces/run", "package/completions/run", "replay/run", "fuzz/run",
 ]
 OVER_PROVED = [
     "tests/golden/run", "tests/cli/run", "page/run", "web/run", "tests/shrink/run", "tests/redact/run", "package/run",
     "tests/faults/run",
 ]
-QUICK = ["tests/guarantees", "tests/links", "tests/words", "tests/of_run", "tests/run"]
+QUICK = ["tests/guarantees", "tests/links", "tests/words", "tests/scripts", "tests/of_run", "tests/run"]
 
 # Each script notes that it begins and ends. rt goes on until one of the others has ended, and after it
 # has said that the program is proved, until one runs over that. None gets a setting of the caller's
@@ -79,6 +80,7 @@ def lay_out(top, failing=(), seconds=0):
     for path in GATE:
         (top / path).parent.mkdir(parents=True, exist_ok=True)
         shutil.copy(TOP / path, top / path)
+    shutil.copytree(TOP / SCRIPTS / "base", top / SCRIPTS / "base", dirs_exist_ok=True)
     (top / "README.md").write_text("logic\n0123abcd\n")
     (top / "log").touch()
 
@@ -247,8 +249,8 @@ def ran(names, failing, crashed=None):
             lines = f"echo {top}/program" if path == "run" else f'case "$*" in *--list*) echo {kind}/late; exit;; esac'
             lines += "\nexit 1" if path == failing else ""
             stub(top / path, "#!/bin/sh\n" + ("exit 1" if path == crashed else lines))
-        (top / "recorders").mkdir(exist_ok=True)
-        for path in ["tests/run", "recorders/outputs.py", "tests/programs.py"]:
+        shutil.copytree(TOP / SCRIPTS / "base", top / SCRIPTS / "base", dirs_exist_ok=True)
+        for path in ["tests/run", "tests/programs.py"]:
             shutil.copy(TOP / path, top / path)
         return subprocess.run([top / "tests/run", *names], capture_output=True).returncode
 

@@ -12,7 +12,7 @@ import time
 from contextlib import suppress
 from pathlib import Path
 
-from stops import held
+from lsptools.base.stops import held
 
 # Between two looks at what has ended.
 PAUSE = 0.05

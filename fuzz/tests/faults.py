@@ -82,7 +82,7 @@ def finds_one_behind_the_other(program, place):
 
 def counts_only_what_fresh_servers_show(program, place):
     """Changes that are ignored in a server that had many documents before."""
-    is_met = lambda it: '"unconfirmed":0' not in it.stdout  # noqa: E731
+    is_met = lambda it: '"unconfirmed":0' not in it.stdout
     done = run_longer(program, "many=8", options=["--json"], is_wanted=is_met)
     total = objects_of(done)[-2]
     assert done.returncode == 0 and total["drifts"] == 0 and total["unconfirmed"] > 0, done

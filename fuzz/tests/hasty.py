@@ -9,12 +9,10 @@ from pathlib import Path
 
 sys.dont_write_bytecode = True
 FUZZ = Path(__file__).resolve().parent.parent
-sys.path.insert(0, str(FUZZ))
-sys.path += [str(FUZZ.parent / folder) for folder in ("replay", "page", "recorders")]
+sys.path.insert(0, str(FUZZ.parent / "scripts"))
 
-import confirming  # noqa: E402
-import hunt  # noqa: E402
-import questions  # noqa: E402
+from lsptools.fuzz import confirming, hunt
+from lsptools.servers import questions
 
 confirming.PAUSES = (0.1, 0.2)
 questions.SHORT_PAUSES = (0.05,)

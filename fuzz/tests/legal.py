@@ -3,23 +3,14 @@
 import random
 import shutil
 import subprocess
-import sys
 import tempfile
 from pathlib import Path
 
-from hunts import TOP, check, side_by_side
-
-sys.path += [str(TOP / it) for it in ("fuzz", "replay", "page")]
-
-import editing  # noqa: E402
-import features  # noqa: E402
-import greeting  # noqa: E402
-import languages  # noqa: E402
-import messages  # noqa: E402
-import session_log  # noqa: E402
-import shrinking  # noqa: E402
-import stores  # noqa: E402
-from cases import Editor  # noqa: E402
+from hunts import check, side_by_side
+from lsptools.base import messages, session_log
+from lsptools.fuzz import editing, features, greeting, shrinking, stores
+from lsptools.fuzz.cases import Editor
+from lsptools.servers import languages
 
 # How many sessions of each kind, and in which encodings.
 TIMES, MANY, ENCODINGS = 3, 40, ("utf-16", "utf-8", "utf-32")

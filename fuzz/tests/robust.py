@@ -3,17 +3,11 @@
 import os
 import signal
 import subprocess
-import sys
 
 import legal
-from hunts import COMMAND, TOP, check, nothing_is_left, objects_of, run, run_longer, words_of
+from hunts import COMMAND, check, nothing_is_left, objects_of, run, run_longer, words_of
+from lsptools.fuzz import causes, hunt, shrinking
 from processes import SECONDS, SIGNALS, until, with_signals
-
-sys.path += [str(TOP / it) for it in ("fuzz", "replay", "page")]
-
-import causes  # noqa: E402
-import hunt  # noqa: E402
-import shrinking  # noqa: E402
 
 
 def is_not_held_up(program, place):

@@ -19,18 +19,18 @@ from selenium.webdriver.common.keys import Keys
 
 sys.path.append(str(Path(__file__).resolve().parent.parent.parent / "tests"))
 
-import causes  # noqa: E402
-import finding  # noqa: E402
-import hands  # noqa: E402
-import logs  # noqa: E402
-import programs  # noqa: E402
-import readers  # noqa: E402
-import truth  # noqa: E402
-import versions  # noqa: E402
-from processes import quoted  # noqa: E402
-from data import EXAMPLES, lines_of, output, written  # noqa: E402
-from expected import READ  # noqa: E402
-from window import THEMES, WIDTHS, Page, make, start  # noqa: E402
+import causes
+import finding
+import hands
+import logs
+import programs
+import readers
+import truth
+import versions
+from processes import quoted
+from data import EXAMPLES, lines_of, output, written
+from expected import READ
+from window import THEMES, WIDTHS, Page, make, start
 
 FAULTS = (AssertionError, AttributeError, LookupError, TypeError, ValueError, OSError, subprocess.SubprocessError,
           WebDriverException)

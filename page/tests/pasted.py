@@ -6,12 +6,10 @@ import re
 import shutil
 import subprocess
 
-import columns
-import hunks
-import in_markdown
 import logs
 from command import EXAMPLE, TOP, answers, run
 from data import EXAMPLES, NO, WRONG, lines_of, output, page_of, smallest_of, written
+from lsptools.page import columns, hunks, in_markdown
 
 # What a text may say outside code: words, and the marks of headings, tables, lists and emphasis.
 OUTSIDE = re.compile(r"(?:[A-Za-z0-9 ,:;().'’\n-]|\*\*|^#{3} |\||\[U\+[0-9A-F]+\]|\+)*", re.M)

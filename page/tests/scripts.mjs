@@ -13,7 +13,7 @@ const packed = (value) => deflateSync(JSON.stringify(value)).toString("base64");
 // A module of the page; `blocks` are the data of a page as they are in it, by name.
 export async function load(name, blocks = { session: packed(NOTHING) }) {
   globalThis.document ??= { getElementById: (id) => ({ textContent: blocks[id] }) };
-  return import(`../js/${name}`);
+  return import(`../../scripts/lsptools/page/js/${name}`);
 }
 
 export const given = () => JSON.parse(readFileSync(0, "utf8"));

@@ -7,10 +7,9 @@ from pathlib import Path
 
 sys.dont_write_bytecode = True
 REPLAY = Path(__file__).resolve().parent.parent
-sys.path.insert(0, str(REPLAY))
-sys.path += [str(REPLAY.parent / folder) for folder in ("page", "recorders")]
+sys.path.insert(0, str(REPLAY.parent / "scripts"))
 
-import questions  # noqa: E402
+from lsptools.servers import questions
 
 questions.PAUSES = (0.1, 0.2)
 questions.SHORT_PAUSES = (0.05,)

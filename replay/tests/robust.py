@@ -10,7 +10,7 @@ import time
 
 import sessions
 from processes import SECONDS, SIGNALS, is_running, until, with_signals
-from trials import COMMAND, HASTY, SERVER, check, named, run, run_waiting
+from trials import COMMAND, HASTY, SERVER, TOP, check, named, run, run_waiting
 from usage import put, small_session
 
 # The speed: this many messages and a search, in at most this many seconds on an idle machine, and ten
@@ -104,7 +104,7 @@ def says_nothing_of_servers_that_it_killed(program, place):
     """It is ended by the first of several signals, and takes its time for it."""
     log, temporary, late = put(place, small_session().end()), place / "temporary", place / "late.py"
     temporary.mkdir()
-    late.write_text(LATE.format([str(COMMAND.parent.parent / it) for it in ("replay", "page", "recorders")], str(HASTY)))
+    late.write_text(LATE.format([str(TOP / "scripts")], str(HASTY)))
     process, children = with_muted(program, place, log, late)
     started = [int(it) for it in children.read_text().split()]
     process.send_signal(signal.SIGTERM)
@@ -123,7 +123,7 @@ def says_nothing_of_servers_that_it_killed(program, place):
 LATE = """
 import runpy, shutil, sys, threading, time
 sys.path[:0] = {0!r}
-import trial
+from lsptools.replay import trial
 remove = shutil.rmtree
 def late(*words, **more):
     if threading.current_thread() is threading.main_thread():

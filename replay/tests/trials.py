@@ -7,12 +7,15 @@ import sys
 from concurrent.futures import ThreadPoolExecutor
 from pathlib import Path
 
+import sessions
 from processes import SECONDS
 
 HERE = Path(__file__).resolve().parent
 TOP = HERE.parent.parent
 COMMAND, HASTY = TOP / "replay/lspcheck-replay", HERE / "hasty.py"
 SERVER = [sys.executable, "-IS", HERE / "server.py"]
+# The document of a session of one.
+URI = "file:///tmp/truth.c"
 # How many trials run at a time, and after how many seconds one is given up, which starts up to a hundred
 # servers.
 WIDTH, MOST = 4, 10 * SECONDS
@@ -91,3 +94,15 @@ def is_clean(done):
     assert "Traceback" not in done.stderr, done.stderr
     lines = done.stderr.splitlines()
     assert not lines or lines[0].startswith("lspcheck-replay: "), done.stderr
+
+
+def opened(text="int a;\n", uri=URI, language="c", **more):
+    """A session that has opened a document."""
+    session = sessions.Session(5, **more)
+    session.open(uri, text, language)
+    return session
+
+
+def place(session, number):
+    """What a message of the editor is called."""
+    return f"editor {number} event {session.numbers[number]}"

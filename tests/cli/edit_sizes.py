@@ -6,7 +6,7 @@ from pathlib import Path
 
 sys.path.insert(0, str(Path(__file__).resolve().parent))
 
-from sizes import START, did_change, did_open, message, replaced, yes  # noqa: E402
+from sizes import START, did_change, did_open, message, replaced, yes
 
 URI, OTHER = "file:///a", "file:///b"
 TWO = START.replace(b"lsp-session 1", b"lsp-session 2", 1)

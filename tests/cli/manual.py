@@ -13,13 +13,13 @@ SOURCES = {
         "recorders/node/*.cjs",
         "recorders/python/*.py",
     ],
-    "lspcheck-page": ["page/lspcheck-page", "page/*.py"],
-    "lspcheck-replay": ["replay/lspcheck-replay", "replay/*.py"],
-    "lspcheck-fuzz": ["fuzz/lspcheck-fuzz", "fuzz/*.py"],
-    "lspcheck-proxy": ["recorders/proxy", "recorders/proxy_*.py", "recorders/vscode/*.js"],
-    "lspcheck-from-trace": ["recorders/from-trace", "recorders/session_log.py"],
-    "lspcheck-shrink": ["recorders/shrink", "recorders/shrink_*.py"],
-    "lspcheck-without": ["recorders/without", "recorders/outputs.py"],
+    "lspcheck-page": ["scripts/lsptools/page/*.py", "scripts/lsptools/base/*.py"],
+    "lspcheck-replay": [f"scripts/lsptools/{it}/*.py" for it in ("replay", "servers", "base")],
+    "lspcheck-fuzz": [f"scripts/lsptools/{it}/*.py" for it in ("fuzz", "servers", "base")],
+    "lspcheck-proxy": ["scripts/lsptools/proxy/*.py", "scripts/lsptools/base/*.py", "recorders/vscode/*.js"],
+    "lspcheck-from-trace": ["scripts/lsptools/trace/*.py", "scripts/lsptools/base/*.py"],
+    "lspcheck-shrink": ["scripts/lsptools/shrink/*.py", "scripts/lsptools/base/*.py"],
+    "lspcheck-without": ["scripts/lsptools/shrink/without.py", "scripts/lsptools/base/*.py"],
 }
 VARIABLE = re.compile(r"(?:environ(?:\.get\(|\[)\"|getenv(?: |\()\"|env::var(?:_os)?\(\"|process\.env\.|empty\(\$)(\w+)")
 

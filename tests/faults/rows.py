@@ -7,8 +7,8 @@ from pathlib import Path
 sys.path.insert(0, str(Path(__file__).resolve().parent.parent / "cli"))
 sys.dont_write_bytecode = True
 
-import sessions  # noqa: E402
-from sessions import ANSWER, HEAD, HEAD_TWO, INITIALIZE, INITIALIZED, editor, frame, server  # noqa: E402
+import sessions
+from sessions import ANSWER, HEAD, HEAD_TWO, INITIALIZE, INITIALIZED, editor, frame, server
 
 START = HEAD + INITIALIZE + ANSWER + INITIALIZED
 

@@ -35,7 +35,7 @@ FOLDER = Path(__file__).resolve().parent
 sys.path.insert(0, str(FOLDER.parent / "cli"))
 sys.dont_write_bytecode = True
 
-from sessions import HEAD, HEAD_TWO, frame  # noqa: E402
+from sessions import HEAD, HEAD_TWO, frame
 
 # The templates of contents: `@` stands for the next word after the name, `*` for the contents that
 # are named after each ` / `, separated by commas.

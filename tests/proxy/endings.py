@@ -5,16 +5,14 @@ import re
 import signal
 import stat
 import subprocess
-import sys
 import time
 from datetime import datetime, timedelta, timezone
 from pathlib import Path
 
+from lsptools.proxy.log import create_log
 from processes import SECONDS, Skipped, until
 from session import PROXY, PYTHON, SERVER, TRACED, Editor
 
-sys.path.insert(0, str(PROXY.parent))
-import proxy_log  # noqa: E402
 
 
 def ends(method, number, status, line):
@@ -146,10 +144,10 @@ def same_number(place):
 
 def next_name(place):
     """The next free name is taken, whatever has the first: a file, a folder, a link to nowhere."""
-    stem = Path(proxy_log.create_log(place, ["a"], 1)[0]).stem
+    stem = Path(create_log(place, ["a"], 1)[0]).stem
     (place / f"{stem}-2.log").mkdir()
     (place / f"{stem}-3.log").symlink_to(place / "nowhere")
-    found = Path(proxy_log.create_log(place, ["a"], 1)[0]).name
+    found = Path(create_log(place, ["a"], 1)[0]).name
     # The second may have changed in between.
     good = found == f"{stem}-4.log" or not found.startswith(stem)
     yield "the next free name", good and not (place / "nowhere").exists(), found

@@ -105,7 +105,7 @@ def full_disk(place):
     disk.mkdir()
     words = ["mount", "-t", "tmpfs", "-o", "size=64k", "none", disk]
     can_mount = subprocess.run(words, capture_output=True).returncode == 0
-    limit = lambda: resource.setrlimit(resource.RLIMIT_FSIZE, (65536, 65536))  # noqa: E731
+    limit = lambda: resource.setrlimit(resource.RLIMIT_FSIZE, (65536, 65536))
     how = {} if can_mount else {"preexec_fn": limit}
     try:
         editor = Editor(place, logs=disk / "logs", **how).start()

@@ -1,14 +1,12 @@
 """Tests of the snapshots that a plug-in of the editor writes."""
 
 import os
-import sys
 import time
 
+from lsptools.proxy.snapshots import Plugin
 from processes import SECONDS
-from session import PROXY, Editor, snapshot
+from session import Editor, snapshot
 
-sys.path.insert(0, str(PROXY.parent))
-import proxy_snapshots  # noqa: E402
 
 
 def by_plugin(make, write, late=0):
@@ -91,7 +89,7 @@ def written_last(place):
     """What was written since the file was last looked at is taken at the end."""
     path, taken = place / "snapshots", []
     path.write_bytes(b"")
-    plugin = proxy_snapshots.Plugin(path, 0, taken.append)
+    plugin = Plugin(path, 0, taken.append)
     plugin.PAUSE = SECONDS
     plugin.start()
     append(path, [snapshot(b"file:///a", 1, b"last")])
@@ -105,7 +103,7 @@ def emptied(place):
     path, taken = place / "snapshots", []
     first, second = snapshot(b"file:///a", 1, b"first"), snapshot(b"file:///a", 2, b"second")
     path.write_bytes(first + second)
-    plugin = proxy_snapshots.Plugin(path, path.stat().st_size, taken.append)
+    plugin = Plugin(path, path.stat().st_size, taken.append)
     for records in ([first], [first, second[:5]], [second]):
         path.write_bytes(b"".join(records))
         plugin.take_all()

@@ -8,15 +8,12 @@ had read it.
 import os
 import random
 import shutil
-import sys
 import threading
 import time
 
+from lsptools.proxy.files import OVERFLOW, Notices, Watch
 from processes import until
-from session import PROMPT, PROXY, QUIET, TIMES, TOGETHER, Editor, put, sent
-
-sys.path.insert(0, str(PROXY.parent))
-import proxy_files  # noqa: E402
+from session import PROMPT, QUIET, TIMES, TOGETHER, Editor, put, sent
 
 SAVES = 20
 
@@ -325,7 +322,7 @@ def without_ctypes(place):
     yield "nothing is said", editor.words() == "", editor.words()
 
 
-class Unwatched(proxy_files.Notices):
+class Unwatched(Notices):
     """A kernel that watches no folder."""
 
     def begin(self, folder):
@@ -334,7 +331,7 @@ class Unwatched(proxy_files.Notices):
 
 def looks_often(place):
     """Where the kernel reports nothing, files are looked at."""
-    watch = proxy_files.Watch()
+    watch = Watch()
     watch.notices = Unwatched()
     watch.start()
     file = place / "a.c"
@@ -360,7 +357,7 @@ def folder_replaced(place):
     system."""
     ways = {"removed": shutil.rmtree, "renamed": lambda it: it.rename(place / "other")}
     for way, remove in ways.items():
-        watch = proxy_files.Watch()
+        watch = Watch()
         watch.start()
         folder = place / way
         folder.mkdir()
@@ -379,11 +376,11 @@ def folder_replaced(place):
 
 def too_much_reported(place):
     """If the kernel has left out reports, anything may have been written."""
-    watch = proxy_files.Watch()
+    watch = Watch()
     file = place / "a.c"
     file.write_text("one")
     written = watch.add(os.fsencode(file))
-    reports = [[(-1, proxy_files.OVERFLOW, b"")], []]
+    reports = [[(-1, OVERFLOW, b"")], []]
     watch.notices.next = lambda: reports.pop(0)
     watch.settle()
     yield "is not one text", not written.is_one_text(), written.for_save

@@ -16,8 +16,6 @@ Each line of TRACE is a list in JSON, whose first word says what was done:
     noted PATH TEXT                  something was written to a file: the hash of its text, or null
 """
 
-import importlib.machinery
-import importlib.util
 import json
 import os
 import sys
@@ -26,27 +24,16 @@ from pathlib import Path
 
 sys.dont_write_bytecode = True
 
-PROXY = Path(__file__).resolve().parent.parent.parent / "recorders/proxy"
-sys.path.insert(0, str(PROXY.parent))
+sys.path.insert(0, str(Path(__file__).resolve().parent.parent.parent / "scripts"))
 
-import outputs  # noqa: E402
-import proxy_files  # noqa: E402
-import proxy_log  # noqa: E402
-import proxy_snapshots  # noqa: E402
-
-
-def load():
-    """The proxy, which is a script without an ending, as a module."""
-    loader = importlib.machinery.SourceFileLoader("proxy", str(PROXY))
-    proxy = importlib.util.module_from_spec(importlib.util.spec_from_loader("proxy", loader))
-    loader.exec_module(proxy)
-    return proxy
+from lsptools.base import outputs
+from lsptools.proxy import command, files, log, snapshots
 
 
 def trace_all(tell):
     """Tells what each part of the recorder does, after it has done it."""
-    record, hear = proxy_log.record, proxy_snapshots.Saves.hear
-    read_next, add = proxy_snapshots.Saves.read_next, proxy_files.Written.add
+    record, hear = log.record, snapshots.Saves.hear
+    read_next, add = snapshots.Saves.read_next, files.Written.add
 
     def traced_record(*given):
         time.sleep(float(os.environ.get("RECORDER_IS_LATE", 0)))
@@ -71,22 +58,21 @@ def trace_all(tell):
         add(written, text)
         tell("noted", os.fsdecode(written.path), text)
 
-    proxy_log.record = traced_record
-    proxy_snapshots.Saves.hear, proxy_snapshots.Saves.read_next = traced_hear, traced_read_next
-    proxy_files.Written.add = traced_add
+    log.record = traced_record
+    snapshots.Saves.hear, snapshots.Saves.read_next = traced_hear, traced_read_next
+    files.Written.add = traced_add
 
 
 def main(trace, patience, times, *words):
-    proxy = load()
-    proxy.PATIENCE = proxy_snapshots.PATIENCE = float(patience)
-    proxy_snapshots.QUIET *= float(times)
-    proxy_snapshots.PROMPT *= float(times)
-    proxy_snapshots.TOGETHER *= float(times)
+    command.PATIENCE = snapshots.PATIENCE = float(patience)
+    snapshots.QUIET *= float(times)
+    snapshots.PROMPT *= float(times)
+    snapshots.TOGETHER *= float(times)
     # The server does not get this file, since no program that is started does.
     file = os.open(trace, os.O_WRONLY | os.O_CREAT | os.O_APPEND, 0o600)
     trace_all(lambda *done: os.write(file, json.dumps(done).encode() + b"\n"))
     sys.argv[1:] = words
-    return proxy.main()
+    return command.main()
 
 
 if __name__ == "__main__":

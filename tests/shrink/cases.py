@@ -3,8 +3,8 @@
 import json
 from io import BytesIO
 
-import session_log
 from logs import changed, edit, frame, notification, opened, request, result, saved, snapshot
+from lsptools.base import session_log
 from scripts import explained, put, small_of
 
 URI = "file:///home/someone/secret%20project/main.c"

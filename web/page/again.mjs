@@ -6,7 +6,7 @@ import { Contents } from "./contents.mjs";
 import { EDITOR, KINDS, Lines, Listing, explained } from "./listing.mjs";
 import { Session } from "./session.mjs";
 
-// How many violations a page explains, as page/session.py says.
+// How many violations a page explains, as lsptools/page/session.py says.
 const MOST_EXPLAINED = 500;
 
 // The statuses of answers; the others are those of faults.

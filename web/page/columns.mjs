@@ -1,5 +1,5 @@
-// The line in which a change is wrong (605, 606), a row for each character, as page/columns.py
-// makes it.
+// The line in which a change is wrong (605, 606), a row for each character, as
+// lsptools/page/columns.py makes it.
 
 import { printed } from "./wording.mjs";
 

@@ -1,6 +1,6 @@
-// The contents of a log's events, in the order in which lspcheck lists them, as page/contents.py
-// reads them. Which frames and records there are is what lspcheck says. This only cuts the bytes
-// where the lengths in the log end.
+// The contents of a log's events, in the order in which lspcheck lists them, as
+// lsptools/base/contents.py reads them. Which frames and records there are is what lspcheck says.
+// This only cuts the bytes where the lengths in the log end.
 
 import { SNAPSHOT, SERVER, EDITOR } from "./listing.mjs";
 

@@ -1,5 +1,5 @@
-// Which events of a long log the page shows: those around its violations, as page/cuts.py chooses
-// them.
+// Which events of a long log the page shows: those around its violations, as lsptools/page/cuts.py
+// chooses them.
 
 import { EDITOR } from "./listing.mjs";
 

@@ -1,6 +1,6 @@
-// The page of lspcheck-page for a log, made here as page/document.py makes it. `parts` are what
-// package/wasm puts in: the template, the style, the script and the policy of that page, the forms
-// of objects, the rules, and the words of Markdown.
+// The page of lspcheck-page for a log, made here as lsptools/page/document.py makes it. `parts` are
+// what package/wasm puts in: the template, the style, the script and the policy of that page, the
+// forms of objects, the rules, and the words of Markdown.
 
 import { MOST_BYTES, MOST_EVENTS, EVERYTHING, Around, canName } from "./cuts.mjs";
 import { Contents } from "./contents.mjs";

@@ -1,4 +1,4 @@
-// Where two texts differ, as `diff` marks it, as page/hunks.py makes it.
+// Where two texts differ, as `diff` marks it, as lsptools/page/hunks.py makes it.
 
 import { cut, visible } from "./wording.mjs";
 

@@ -1,5 +1,5 @@
-// What `show --all --long --json` and `explain --all --notes --json` write, as page/listing.py
-// reads it.
+// What `show --all --long --json` and `explain --all --notes --json` write, as
+// lsptools/base/listing.py reads it.
 
 export const EDITOR = 0, SERVER = 1, SNAPSHOT = 2;
 export const KINDS = ["request", "notification", "result", "error", "snapshot", "unreadable"];

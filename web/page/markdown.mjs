@@ -1,4 +1,5 @@
-// What one pastes into an issue about a log, as page/in_markdown.py makes it, in its words.
+// What one pastes into an issue about a log, as lsptools/page/in_markdown.py makes it, in its
+// words.
 
 import { tableOf, textBefore } from "./columns.mjs";
 import { difference } from "./hunks.mjs";

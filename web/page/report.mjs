@@ -1,5 +1,5 @@
-// The lines of a report from its objects, as recorders/report_lines.py makes them, by the forms of
-// docs/report.schema.json.
+// The lines of a report from its objects, as lsptools/base/report_lines.py makes them, by the forms
+// of docs/report.schema.json.
 
 // What a line has for null: in most lines a dash.
 const NULLS = { codes: "end" };

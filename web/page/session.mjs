@@ -1,4 +1,5 @@
-// The events of a log as the page shows them: joined and summed up, as page/session.py does it.
+// The events of a log as the page shows them: joined and summed up, as lsptools/page/session.py
+// does it.
 
 import { EDITOR, KINDS, SNAPSHOT } from "./listing.mjs";
 import { jsonOf } from "./report.mjs";
@@ -9,7 +10,7 @@ const ENCODINGS = ["utf-8", "utf-16", "utf-32"];
 const SYNCS = ["none", "full", "incremental"];
 // The methods whose messages are always read.
 const READ = ["initialize", "$/cancelRequest"];
-// The columns of the rows, in the order in which page/session.py has them.
+// The columns of the rows, in the order in which lsptools/page/session.py has them.
 const COLUMNS = ["event", "side", "number", "kind", "method", "document", "bytes", "block",
   "partner", "cancel", "broken", "id", "version"];
 

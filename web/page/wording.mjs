@@ -1,5 +1,5 @@
 // How texts of a log are written where no box can be drawn around odd characters, and names, as
-// page/wording.py has it.
+// lsptools/page/wording.py has it.
 
 // How many marks may follow one character, and how long a name may be.
 const MOST_MARKS = 3, LONGEST_NAME = 200;

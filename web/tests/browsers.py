@@ -15,18 +15,18 @@ from functools import partial
 from pathlib import Path
 
 TOP = Path(__file__).resolve().parent.parent.parent
-FOLDERS = ["page/tests", "tests", "tests/fuzz", "tests/golden", "tests/cli", "recorders", "page"]
+FOLDERS = ["page/tests", "tests", "tests/fuzz", "tests/golden", "tests/cli", "scripts"]
 sys.path += [str(TOP / folder) for folder in FOLDERS]
 
-import of_checkers  # noqa: E402
-import of_dropped  # noqa: E402
-import window  # noqa: E402
-from dropped import DROP, READY, STATE, due, packed  # noqa: E402
-from engine import InBrowser, page_of_runs  # noqa: E402
-from firefox import Firefox  # noqa: E402
-from given import EXAMPLES, Given, answer, damaged, recorded  # noqa: E402
-from processes import until  # noqa: E402
-from same import Comparison  # noqa: E402
+import of_checkers
+import of_dropped
+import window
+from dropped import DROP, READY, STATE, due, packed
+from engine import InBrowser, page_of_runs
+from firefox import Firefox
+from given import EXAMPLES, Given, answer, damaged, recorded
+from processes import until
+from same import Comparison
 
 # Where a browser is not given everything, it is given one of this many.
 PART = 10

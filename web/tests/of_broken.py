@@ -7,7 +7,7 @@ import subprocess
 from given import TOP
 from of_node import script
 
-COPIED = ["web", "package", "page", "recorders", "replay", "tests", "examples", "docs"]
+COPIED = ["web", "package", "page", "recorders", "replay", "scripts", "tests", "examples", "docs"]
 MODULE = "lspcheck.wasm"
 
 # Each as a file, a text and its replacement, and the test that must notice.

@@ -16,7 +16,7 @@ from pathlib import Path
 HERE = Path(__file__).resolve().parent
 sys.path.insert(0, str(HERE.parent))
 
-from lspcheck_recorder import assert_clean, is_installed, record  # noqa: E402
+from lspcheck_recorder import assert_clean, is_installed, record
 
 SERVER = [sys.executable, str(HERE / "server.py")]
 PIPES = {"stdin": subprocess.PIPE, "stdout": subprocess.PIPE}
