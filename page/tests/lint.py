@@ -25,7 +25,8 @@ def passes(*words):
 
 
 def scripts_are_linted(program, place):
-    lint = ("eslint", "--no-eslintrc", "--config", HERE / "eslint.json", "--ext", ".mjs")
+    # This format needs no other package.
+    lint = ("eslint", "--no-eslintrc", "--config", HERE / "eslint.json", "--ext", ".mjs", "--format", "unix")
     passes(*lint, JS)
     passes(*lint, "--env", "node", "--rule", "max-len: [error, 130]", HERE)
 
