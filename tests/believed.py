@@ -21,7 +21,7 @@ sys.path.append(str(TOP / "scripts"))
 
 from lsptools.base import outputs
 
-USE = re.compile(r"use ([\w.]+?)(?:\.\{(.*)\}| as (\w+))?$")
+USE = re.compile(r"(?:pub )?use ([\w.]+?)(?:\.\{(.*)\}| as (\w+))?$")
 GHOST_USE = re.compile(r"^ghost use ([\w.]+)\.\{(.*)\};$", re.M)
 HEAD = re.compile(r"(?:abbrev |record |data |pub )*([^\s:({]+)")
 PART = re.compile(r"\s+(?:pub )?([\w-]+) :")
@@ -81,8 +81,16 @@ def cited(run, known):
         if head and "ensures" in head[0]:
             words = set(WORD.findall(head[0].partition("ensures")[2]))
             names = ((place, it) for place, imported in GHOST_USE.findall(text) for it in imported.split(", "))
-            return [(place, it) for place, it in names if it in words and place in known]
+            named = ((origin(known, place, it), it) for place, it in names if it in words)
+            return [(place, it) for place, it in named if place in known]
     sys.exit(f"tests/believed.py: no public function {run} with a contract")
+
+
+def origin(known, place, word):
+    """The module that defines a name which this one has or passes on."""
+    while place in known and word not in known[place].owners and word in known[place].imports:
+        place = known[place].imports[word]
+    return place
 
 
 def reached(run="run_check"):
@@ -98,7 +106,7 @@ def reached(run="run_check"):
             continue
         names.append(name)
         for other, named in module.named(name):
-            other = other or place
+            other = origin(known, other or place, named)
             if other in known and named in known[other].owners:
                 waiting.append((other, named))
     return found
