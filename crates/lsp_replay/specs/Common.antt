@@ -1,4 +1,4 @@
--- The words of this crate and of those below it that the crates above use, passed on from one place.
+-- Words of this crate and of those below it that the crates above use, passed on from one place.
 pub use Rattle.lsp_docs.specs.Calls.{byte_len, Bytes, Call, changes, closes, opens, saves, shows}
 pub use Rattle.lsp_docs.specs.Calls.{uri_of}
 pub use Rattle.lsp_docs.specs.Documents.{held, is_after, is_at, Terms, terms_of, Version, versioned}

@@ -1,4 +1,4 @@
--- The words of this crate and of those below it that the crates above use, passed on from one place.
+-- Words of this crate and of those below it that the crates above use, passed on from one place.
 pub use Rattle.lsp_docs.specs.Calls.{Bytes, Call, changes, closes, opens, saves, shows, Text}
 pub use Rattle.lsp_docs.specs.Calls.{uri_of}
 pub use Rattle.lsp_docs.specs.Documents.{held, Terms, Version}
