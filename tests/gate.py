@@ -176,9 +176,17 @@ class Gate:
         return 1 if failed or not passed else 0
 
 
+def find_python_first():
+    """Where `python3` is a script that looks for Python, it takes as long as Python itself: each script
+    finds the Python that runs this one."""
+    if not os.path.samefile(shutil.which("python3"), sys.executable):
+        os.environ["PATH"] = f"{Path(sys.executable).parent}:{os.environ['PATH']}"
+
+
 def main(words):
     catch()
     adopt()
+    find_python_first()
     with tempfile.TemporaryDirectory(prefix="test-") as folder:
         gate = Gate(QUICK if words else GATE, Path(folder))
         os.chdir(TOP)

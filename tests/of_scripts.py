@@ -1,12 +1,16 @@
 """That the tests of the scripts notice what is broken on purpose: page/run, replay/run, fuzz/run,
 tests/shrink/run and tests/proxy/run, and tests/scripts."""
 
+import compileall
+import contextlib
+import re
 import shutil
 import subprocess
 import tempfile
 from pathlib import Path
 
 TOP = Path(__file__).resolve().parent.parent
+PIPES = {"stdin": subprocess.PIPE, "stdout": subprocess.PIPE, "text": True}
 
 # What is broken in a copy of lspcheck-page, each as a file, a text and its replacement, and the test of
 # page/run that must notice.
@@ -195,22 +199,61 @@ BROKEN_SHRINKS = [
 ]
 
 
+def copied(top):
+    """Copies what these scripts are made of. Each row starts many of them, so their bytecode is kept."""
+    for folder in ["fuzz", "page", "replay", "recorders", "scripts", "tests", "examples", "docs"]:
+        shutil.copytree(TOP / folder, top / folder)
+        compileall.compile_dir(top / folder, quiet=1)
+    return top
+
+
+@contextlib.contextmanager
+def planted(path, old, new):
+    """Replaces a text in a file, for a while. Gives whether it is there."""
+    text = path.read_text()
+    path.write_text(text.replace(old, new))
+    yield old in text
+    path.write_text(text)
+
+
 def on_script(program, runner, broken):
     """What runs a script, with that as it is, and with one thing broken."""
     with tempfile.TemporaryDirectory() as name:
-        top = Path(name)
-        for folder in ["fuzz", "page", "replay", "recorders", "scripts", "tests", "examples", "docs"]:
-            shutil.copytree(TOP / folder, top / folder)
+        top = copied(Path(name))
         tests = sorted({test for *_, test in broken})
         whole = subprocess.run([top / runner, program, *tests], capture_output=True)
         yield f"{runner}: nothing is broken", whole.returncode == 0
         for file, old, new, test in broken:
-            path = top / "scripts/lsptools" / file
-            text = path.read_text()
-            path.write_text(text.replace(old, new))
-            done = subprocess.run([top / runner, program, test], capture_output=True)
-            yield f"{runner}: {file} without {old}", old in text and b"FAILED " in done.stdout
-            path.write_text(text)
+            with planted(top / "scripts/lsptools" / file, old, new) as is_there:
+                done = subprocess.run([top / runner, program, test], capture_output=True)
+            yield f"{runner}: {file} without {old}", is_there and b"FAILED " in done.stdout
+
+
+def counts_of(browser, test):
+    """How many tests of this name passed and failed in a browser: none if it has ended."""
+    with contextlib.suppress(OSError):
+        browser.stdin.write(f"{test}\n")
+        browser.stdin.flush()
+        for line in browser.stdout:
+            if counts := re.fullmatch(r"(\d+) (\d+)\n", line):
+                return int(counts[1]), int(counts[2])
+    return 0, 0
+
+
+def on_browser(program):
+    """What is false on a page. One browser tries each test with it, and then as it is."""
+    passed, failed = [], []
+    with tempfile.TemporaryDirectory() as name:
+        top = copied(Path(name))
+        with subprocess.Popen([top / "page/run", "--asked", program], **PIPES) as browser:
+            for file, old, new, test in LYING_PAGES:
+                with planted(top / "scripts/lsptools" / file, old, new) as is_there:
+                    _, is_seen = counts_of(browser, test)
+                yield f"page/run: {file} without {old}", is_there and is_seen > 0
+                found = counts_of(browser, test)
+                passed, failed = [*passed, found[0]], [*failed, found[1]]
+            browser.stdin.close()
+    yield "page/run: nothing is broken in a browser", min(passed) > 0 and max(failed) == 0
 
 
 # What is wrong with the package, each as a module, a text and its replacement, and the words for it.
@@ -252,12 +295,12 @@ def on_package():
             path.write_text(text)
 
 
-def checks(program):
-    """Each check as its name and whether what was broken was noticed."""
-    pages = BROKEN_PAGES + (LYING_PAGES if has_browser() else [])
+def parts(program):
+    """The parts, each of which yields the name of a check and whether it noticed what was broken."""
+    yield from [on_browser(program)] if has_browser() else []
     for runner, broken in [
-        ("page/run", pages), ("replay/run", BROKEN_REPLAYS), ("fuzz/run", BROKEN_HUNTS),
+        ("page/run", BROKEN_PAGES), ("replay/run", BROKEN_REPLAYS), ("fuzz/run", BROKEN_HUNTS),
         ("tests/shrink/run", BROKEN_SHRINKS), ("tests/proxy/run", BROKEN_ALARMS),
     ]:
-        yield from on_script(program, runner, broken)
-    yield from on_package()
+        yield on_script(program, runner, broken)
+    yield on_package()

@@ -1,9 +1,11 @@
 """How the tests start programs, and wait for what these do."""
 
+import py_compile
 import shlex
 import shutil
 import signal
 import sys
+import tempfile
 import time
 from pathlib import Path
 
@@ -11,6 +13,10 @@ from pathlib import Path
 SECONDS = 600
 
 SIGNALS = (signal.SIGINT, signal.SIGTERM, signal.SIGHUP)
+
+
+# Folders that are removed when the tests have ended.
+KEPT = []
 
 
 class Skipped(Exception):
@@ -49,3 +55,11 @@ def until(condition, seconds=SECONDS):
 def quoted(path):
     """A path as a word of a shell: it may have spaces."""
     return shlex.quote(str(path))
+
+
+def bytecode_of(script):
+    """A script of Python, compiled: a server of the tests is started thousands of times."""
+    KEPT.append(tempfile.TemporaryDirectory(prefix="bytecode-"))
+    path = Path(KEPT[-1].name) / f"{script.stem}.pyc"
+    py_compile.compile(str(script), str(path), doraise=True)
+    return path

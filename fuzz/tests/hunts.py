@@ -9,12 +9,12 @@ import sys
 from concurrent.futures import ThreadPoolExecutor
 from pathlib import Path
 
-from processes import SECONDS, is_running, until, with_signals
+from processes import SECONDS, bytecode_of, is_running, until, with_signals
 
 HERE = Path(__file__).resolve().parent
 TOP = HERE.parent.parent
 COMMAND, HASTY = TOP / "fuzz/lspcheck-fuzz", HERE / "hasty.py"
-SERVER = [sys.executable, "-IS", HERE / "server.py"]
+SERVER = [sys.executable, "-IS", bytecode_of(HERE / "server.py")]
 # How many hunts run at a time, and how many sessions there are until each feature was in one.
 WIDTH, ROUND = 4, 24
 

@@ -34,7 +34,6 @@ import json
 import os
 import re
 import signal
-import subprocess
 import sys
 import time
 import unicodedata
@@ -294,6 +293,8 @@ def main():
     if "stays" in FAULTS:
         signal.signal(signal.SIGTERM, signal.SIG_IGN)
     if "child" in FAULTS:
+        # The servers are many, and few of them need it.
+        import subprocess
         child = subprocess.Popen(["sleep", "1000"], stdout=subprocess.DEVNULL, stderr=subprocess.DEVNULL)
         with open(FAULTS["child"], "a") as file:
             file.write(f"{os.getpid()} {child.pid}\n")

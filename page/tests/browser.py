@@ -2,9 +2,11 @@
 """Opens pages in Chromium, light and dark, 380 to 1,600 pixels wide, and uses them.
 
 usage: browser.py PROGRAM FOLDER [NAME ..]        FOLDER is for the pages
+       browser.py PROGRAM FOLDER --asked
 
 With a NAME, only the tests whose names contain one are run. It prints a line for each fault, and last
-the numbers of tests that passed and failed.
+the numbers of tests that passed and failed; with --asked it does so for each line of standard input,
+which is such a NAME.
 """
 
 import json
@@ -264,33 +266,53 @@ def tests_of(driver, program, place):
     for test in (marks_what_differs, forbids_everything_else):
         yield test.__name__, lambda test=test, page=page: test(page)
     events = 3000 if programs.is_checked(program) else 20000
-    long = written(place, "long.log", logs.long(events, difference=events // 5 * 3 + 1))
-    yield "stays_small", lambda: stays_small(window(long), events)
+    # What is long is written only if its test is run.
+    yield "stays_small", lambda: stays_small(
+        window(written(place, "long.log", logs.long(events, difference=events // 5 * 3 + 1))), events)
     known = window(EXAMPLES[-1], program=later(program, place))
     yield "shows_objects_that_are_not_known", lambda: shows_objects_that_are_not_known(known)
     for part in (hands, truth, versions, causes, readers, finding):
         yield from part.tests_of(window, program, place)
 
 
+def tried(driver, program, place, names):
+    """How many tests passed and failed."""
+    passed = failed = 0
+    for name, test in tests_of(driver, program, place):
+        if names and not any(it in name for it in names):
+            continue
+        try:
+            test()
+            passed += 1
+        except FAULTS as error:
+            failed += 1
+            places = traceback.extract_tb(error.__traceback__)
+            where = [it for it in places if str(Path(__file__).parent) in it.filename][-1]
+            print(f"FAILED {name}, {Path(where.filename).name} line {where.lineno}: {error or where.line}"[:2000], flush=True)
+    return passed, failed
+
+
+def asked(driver, program, place):
+    """Tries what standard input names, a line each: in a tab and a folder of its own."""
+    for number, line in enumerate(sys.stdin):
+        driver.switch_to.new_window("tab")
+        folder = place / str(number)
+        folder.mkdir()
+        print(*tried(driver, program, folder, [line.rstrip("\n")]), flush=True)
+        driver.close()
+        driver.switch_to.window(driver.window_handles[0])
+
+
 def main(words):
     program, place, names = Path(words[0]).resolve(), Path(words[1]).resolve(), words[2:]
     driver = start()
-    passed = failed = 0
     try:
-        for name, test in tests_of(driver, program, place):
-            if names and not any(it in name for it in names):
-                continue
-            try:
-                test()
-                passed += 1
-            except FAULTS as error:
-                failed += 1
-                places = traceback.extract_tb(error.__traceback__)
-                where = [it for it in places if str(Path(__file__).parent) in it.filename][-1]
-                print(f"FAILED {name}, {Path(where.filename).name} line {where.lineno}: {error or where.line}"[:2000], flush=True)
+        if names == ["--asked"]:
+            asked(driver, program, place)
+        else:
+            print(*tried(driver, program, place, names))
     finally:
         driver.quit()
-    print(passed, failed)
 
 
 if __name__ == "__main__":

@@ -422,5 +422,5 @@ def tests_of(window, program, place):
         yield f"keeps_evil_logs_as_text {name}", lambda evil=evil: keeps_evil_logs_as_text(evil)
     yield "links_what_follows", lambda: links_what_follows(page, program, example)
     events = 4000 if programs.is_checked(program) else 200002
-    many = written(place, "many.log", logs.many(events))
-    yield "opens_many_events", lambda: opens_many_events(window(many, "--most-events", "300000", "--most-bytes", "100000000"), events)
+    yield "opens_many_events", lambda: opens_many_events(
+        window(written(place, "many.log", logs.many(events)), "--most-events", "300000", "--most-bytes", "100000000"), events)

@@ -8,12 +8,12 @@ from concurrent.futures import ThreadPoolExecutor
 from pathlib import Path
 
 import sessions
-from processes import SECONDS
+from processes import SECONDS, bytecode_of
 
 HERE = Path(__file__).resolve().parent
 TOP = HERE.parent.parent
 COMMAND, HASTY = TOP / "replay/lspcheck-replay", HERE / "hasty.py"
-SERVER = [sys.executable, "-IS", HERE / "server.py"]
+SERVER = [sys.executable, "-IS", bytecode_of(HERE / "server.py")]
 # The document of a session of one.
 URI = "file:///tmp/truth.c"
 # How many trials run at a time, and after how many seconds one is given up, which starts up to a hundred

@@ -6,6 +6,7 @@ import shutil
 import subprocess
 import sys
 import tempfile
+import threading
 from pathlib import Path
 
 SOURCE = Path(__file__).resolve().parent / "faults.c"
@@ -32,13 +33,26 @@ def library(folder):
     return str(path)
 
 
+# The variables of each run, and one file for each thread, where a run says how many calls it made.
+ENVIRONMENT = dict(os.environ)
+COUNTS = threading.local()
+
+
+def count_file():
+    """The file of this thread."""
+    if not hasattr(COUNTS, "file"):
+        COUNTS.file = tempfile.NamedTemporaryFile()
+    COUNTS.file.truncate(0)
+    return COUNTS.file
+
+
 def answer(program, words, preload, kind, most, at=0, given=None):
     """The status, the output and the errors of one run, and how many calls of the kind it made. If
     `most` is given, each read or write takes at most that many bytes."""
-    with tempfile.NamedTemporaryFile() as count:
-        settings = {"LD_PRELOAD": preload, "FAULT_KIND": kind, "FAULT_AT": str(at), "FAULT_COUNT": count.name}
-        if kind != "allocation" and most is not None:
-            settings["FAULT_MOST"] = str(most)
-        how = {"stdin": subprocess.DEVNULL} if given is None else {"input": given}
-        run = subprocess.run([program, *words], capture_output=True, env={**os.environ, **settings}, **how)
-        return (run.returncode, run.stdout, run.stderr), int(Path(count.name).read_text() or 0)
+    count = count_file()
+    settings = {"LD_PRELOAD": preload, "FAULT_KIND": kind, "FAULT_AT": str(at), "FAULT_COUNT": count.name}
+    if kind != "allocation" and most is not None:
+        settings["FAULT_MOST"] = str(most)
+    how = {"stdin": subprocess.DEVNULL} if given is None else {"input": given}
+    run = subprocess.run([program, *words], capture_output=True, env={**ENVIRONMENT, **settings}, **how)
+    return (run.returncode, run.stdout, run.stderr), int(os.pread(count.fileno(), 100, 0) or 0)
