@@ -83,7 +83,7 @@ def runs_as_many_servers_as_it_says(program, place_of):
         (place / "running").mkdir(parents=True)
         counts, watched = place / "counts", place / "watched.py"
         watched.write_text(WATCHED.format(str(SERVER[-1]), str(place / "running"), str(counts)))
-        done = run(program, log, fault, server=[sys.executable, watched], options=options, command=command)
+        done = run(program, log, fault, server=[sys.executable, "-IS", watched], options=options, command=command)
         assert len(named(done)) == 1, done
         numbers = list(map(int, counts.read_text().split()))
         assert 0 < min(numbers) and max(numbers) <= most, numbers
@@ -106,7 +106,7 @@ runpy.run_path({1!r}, run_name="__main__")
 # Each server has a file that is locked until it has ended, which it takes its time for: on a busy machine,
 # the number of a process soon is that of another one.
 WATCHED = """
-import atexit, fcntl, os, runpy, time, uuid
+import atexit, fcntl, os, runpy, time
 atexit.register(time.sleep, 0.2)
 def is_locked(name):
     with open(os.path.join({1!r}, name)) as file:
@@ -115,7 +115,7 @@ def is_locked(name):
         except BlockingIOError:
             return True
     return False
-own = os.path.join({1!r}, str(uuid.uuid4()))
+own = os.path.join({1!r}, os.urandom(16).hex())
 lock = open(own + ".new", "w")
 fcntl.flock(lock, fcntl.LOCK_EX)
 os.rename(own + ".new", own)
