@@ -4,6 +4,14 @@ import json
 from dataclasses import dataclass
 from urllib.parse import unquote
 
+# How deep a message of a server may be nested. What compares answers calls itself for each level,
+# which Python bears for some 480; and lspcheck takes 127.
+DEEPEST = 400
+
+# How deep a message of a server may be nested. What compares answers calls itself for each level,
+# which Python bears for some 480; and lspcheck takes 127.
+DEEPEST = 400
+
 
 @dataclass
 class Message:
@@ -54,6 +62,34 @@ def value_of(content):
     except (ValueError, RecursionError):
         return {}
     return value if isinstance(value, dict) else {}
+
+
+def is_deep(value):
+    """Whether a JSON object is nested deeper than what compares answers can go."""
+    level = [value]
+    for _ in range(DEEPEST):
+        parts = (it.values() if isinstance(it, dict) else it for it in level)
+        level = [it for part in parts for it in part if isinstance(it, (dict, list))]
+        if not level:
+            return False
+    return True
+
+
+def shallow_value_of(content):
+    """The same for a message of a server: it fails if that is nested too deep to be compared."""
+    try:
+        value = json.loads(content)
+    except ValueError:
+        value = {}
+    if not isinstance(value, dict):
+        return {}
+    level = [value]
+    for _ in range(DEEPEST):
+        parts = (it.values() if isinstance(it, dict) else it for it in level)
+        level = [it for part in parts for it in part if isinstance(it, (dict, list))]
+        if not level:
+            return value
+    raise RecursionError
 
 
 def member(value, *path):
