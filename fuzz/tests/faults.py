@@ -1,6 +1,18 @@
 """Each fault of a server is found, with its feature and its cause; and the small case shows it again."""
 
-from hunts import check, drifts, objects_of, replayed, run_longer, side_by_side, until_found
+import sys
+
+from hunts import SERVER, TOP, check, drifts, objects_of, replayed, run_longer, side_by_side, until_found
+from processes import SECONDS
+
+sys.path += [str(TOP / it) for it in ("fuzz", "replay", "page")]
+
+import cases  # noqa: E402
+import causes  # noqa: E402
+import folders  # noqa: E402
+import greeting  # noqa: E402
+import languages  # noqa: E402
+import live  # noqa: E402
 
 # The faults of the server; the features of which one names the drift; and its cause.
 FAULTS = [
@@ -80,6 +92,18 @@ def finds_one_behind_the_other(program, place):
     assert found == wanted, found
 
 
+def explains_an_emptied_text(program, place):
+    """In a server for which that has no line, as in gopls 0.5.0: the line after the last one is its first."""
+    command = [*map(str, SERVER), "cr", "past=go"]
+    target = greeting.Target(program, command, place, folders.Folders([], place), place, SECONDS, 1)
+    case = cases.Case(("\r\r",), (cases.Step(0, (cases.Edit(0, 1, ""),)),))
+    greeted, language = greeting.Greeting(target, ["utf-16"]), greeting.Language("c")
+    with live.Live(greeted, language, languages.FORMS["c"]) as server:
+        assert server.differing(case)
+        cause = causes.Explaining(server).cause(case, case)
+    assert str(cause) == "a lone CR ends no line", cause
+
+
 def counts_only_what_fresh_servers_show(program, place):
     """Changes that are ignored in a server that had many documents before."""
     is_met = lambda it: '"unconfirmed":0' not in it.stdout
@@ -88,5 +112,5 @@ def counts_only_what_fresh_servers_show(program, place):
     assert done.returncode == 0 and total["drifts"] == 0 and total["unconfirmed"] > 0, done
 
 
-TESTS = [finds_each_fault, finds_one_behind_the_other, counts_only_what_fresh_servers_show]
+TESTS = [finds_each_fault, finds_one_behind_the_other, explains_an_emptied_text, counts_only_what_fresh_servers_show]
 LONG_TESTS = [finds_each_fault_among_all_features]

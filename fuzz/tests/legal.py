@@ -108,24 +108,30 @@ def cut_sessions_are_legal(program, place):
     are_legal(program, place, logs)
 
 
-def cuts_down_to_what_it_takes(_program, _place):
-    """A drift that needs an emoji in the text, and an edit after it."""
-    def is_shown(case):
-        sent = sent_of(case, "utf-16")
-        right, wrong = stores.Store(), stores.Store("counts characters", encoding="utf-32")
-        contents = [it.content for it in sent]
-        one, other = (stores.held(it, contents, "utf-16", "file:///one.c")[0] for it in (right, wrong))
-        return one != other
+def is_held_otherwise(case, wrong):
+    """Whether a wrong store holds another text than the right one."""
+    contents = [it.content for it in sent_of(case, "utf-16")]
+    one, other = (stores.held(it, contents, "utf-16", "file:///one.c")[0] for it in (stores.Store(), wrong))
+    return one != other
 
-    found = 0
-    for seed in range(40):
-        case = case_of(seed, PLAIN | {"astral"})
-        if is_shown(case):
-            smallest = shrinking.Shrinking(case, is_shown, lambda it: None).smallest()
-            assert len(smallest.steps) == 1 and len(smallest.texts[0]) <= 4, smallest
-            assert features.features_of(smallest)[0] == "astral", smallest
-            found += 1
-    assert found > 10, found
+
+def cuts_down_to_what_it_takes(_program, _place):
+    """A drift that needs an emoji in the text, and an edit after it; and one that needs a form feed there,
+    also where a change has both."""
+    for chosen, wrong in (
+        (["astral"], stores.Store(encoding="utf-32")),
+        (["separators", "several", "whole"], stores.Store(ends=f"{stores.LINE_ENDS}|[\f\x85\u2028]")),
+    ):
+        found = 0
+        for seed in range(40):
+            case = case_of(seed, PLAIN | set(chosen))
+            if is_held_otherwise(case, wrong):
+                is_shown = lambda it, wrong=wrong: is_held_otherwise(it, wrong)  # noqa: E731
+                smallest = shrinking.Shrinking(case, is_shown, lambda it: None).smallest()
+                assert len(smallest.steps) == len(smallest.steps[0].edits) == 1, smallest
+                assert len(smallest.texts[0]) <= 4 and features.features_of(smallest)[0] == chosen[0], smallest
+                found += 1
+        assert found > 10, found
 
 
 def right_store_holds_the_right_text(_program, _place):

@@ -13,8 +13,9 @@ from processes import SECONDS
 PACKAGES = {
     "clangd": "clangd-14", "pylsp": "python3-pylsp", "gopls": "gopls", "ccls": "ccls", "rust-analyzer": "rust-analyzer",
 }
-# How long a real server is tried, in seconds.
-LONG = 120
+# How long a real server is tried, and what it may take for an answer, in seconds: clangd 14 gives none any
+# more once it has dropped as many documents as there are processors while it was building them.
+LONG, WAIT = 120, 20
 
 
 def block_after(page, mark):
@@ -107,7 +108,7 @@ def finds_what_the_page_says(program, place):
             continue
         due = sorted((feature, cause) for _, _, feature, cause, _ in listed)
         for seconds in (LONG, 5 * LONG):
-            options = ["--seconds", seconds]
+            options = ["--seconds", seconds, "--wait", WAIT]
             done = run(program, options=options, command=COMMAND, server=[name], language=None, timeout=20 * LONG)
             found = sorted(re.findall(r"^drift ([\w-]+): (.*?); ", done.stdout, re.M))
             if found == due:

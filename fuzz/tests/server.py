@@ -6,7 +6,9 @@ stores of that command.
   cr                       a lone CR ends no line                crlf        CR LF ends two lines
   formfeed, separators     a form feed ends a line; and all that Python splits lines at
   past=HOW                 a column past the end of a line: next (runs into the next line), after (is after
-                           the line end), ignored (the change), dropped (the document)
+                           the line end), ignored (the change), dropped (the document), go (ignored, and so is
+                           a line past the last one; but the first column of the line after that is the end,
+                           and an empty text has no line)
   beyond                   a change with a line past the last one is ignored
   disk                     the text of a didOpen is ignored: there is no file
   ignores=WORD             ignores a change to a text with this word   drops=WORD   drops the document at one
@@ -97,8 +99,9 @@ class Document:
         ends = list(LINE_END.finditer(text))
         line, column = place["line"], place["character"]
         column = column & 255 if "narrow" in FAULTS else column
-        if line > len(ends):
-            if "beyond" in FAULTS:
+        is_go, count = FAULTS.get("past") == "go", len(ends) + 1 if text else 0
+        if line > len(ends) or is_go and (line, column) == (count, 0):
+            if "beyond" in FAULTS or is_go and (line, column) != (count, 0):
                 raise Lost
             return len(text)
         start = ends[line - 1].end() if line else 0
@@ -109,7 +112,7 @@ class Document:
     def past(self, text, at, left, after):
         """Where a column is that is this far past the end of its line, which ends `at`."""
         how = FAULTS.get("past")
-        if how in ("ignored", "dropped"):
+        if how in ("ignored", "dropped", "go"):
             raise Lost
         if how == "next":
             return walked(text, at, len(text), left, self.encoding)[0]

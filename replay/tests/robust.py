@@ -68,6 +68,17 @@ def is_not_held_up(program, place):
     refuses_first(done, "yes sends bytes that are not frames: a header part is too long ")
 
 
+def says_that_an_answer_is_nested_too_deep(program, place):
+    """Python can't compare some, and can't read others at all."""
+    log = put(place, small_session().end())
+    for depth in (300, 490, 700, 100_000):
+        done = run(program, log, f"deep={depth}")
+        if depth > 400:
+            refuses_first(done, r"python\S* sends a message that is nested over 400 deep after editor \d+ event \d+")
+        else:
+            assert (done.returncode, done.stderr) == (0, ""), done
+
+
 def to_another_thread(process, number):
     """Sends a signal as the system may do: not to the first thread, where Python handles it."""
     thread = max(it for it in map(int, os.listdir(f"/proc/{process.pid}/task")) if it != process.pid)
@@ -190,6 +201,7 @@ TESTS = [
     says_that_the_server_ended,
     waits_no_longer_than_it_says,
     is_not_held_up,
+    says_that_an_answer_is_nested_too_deep,
     leaves_no_process,
     says_nothing_of_servers_that_it_killed,
 ]

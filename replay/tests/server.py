@@ -31,6 +31,7 @@
   scoped       has the names of settings, which it asks for in turns   folders  has the folders that are added
   busy=N:F     does not answer symbols in the first N processes that are asked, which it counts in the file F
   tells        gives its text itself                                 refuses    answers initialize with an error
+  deep=N       answers with lists in lists, N of them
 """
 
 import json
@@ -195,7 +196,8 @@ class Server:
 
     def send(self, **message):
         head = {} if "careless" in FAULTS and "result" in message else {"jsonrpc": "2.0"}
-        content = json.dumps({**head, **message}).encode()
+        depth = int(FAULTS.get("deep", 0))
+        content = json.dumps({**head, **message}).replace('"deep"', "[" * depth + "]" * depth).encode()
         sys.stdout.buffer.write(b"Content-Length: %d\r\n\r\n%s" % (len(content), content))
         sys.stdout.buffer.flush()
 
@@ -265,7 +267,7 @@ class Server:
             result = [*result, {"now": self.answered}]
         if "own" in FAULTS and isinstance(result, list):
             result = [*result, {"own": os.getpid()}]
-        self.send(id=id, result=result)
+        self.send(id=id, result="deep" if "deep" in FAULTS and isinstance(result, list) else result)
 
     def open(self, uri, document):
         self.opened += 1

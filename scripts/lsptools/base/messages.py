@@ -4,6 +4,10 @@ import json
 from dataclasses import dataclass
 from urllib.parse import unquote
 
+# How deep a message of a server may be nested. What compares answers calls itself for each level,
+# which Python bears for about 480; and lspcheck takes 127.
+DEEPEST = 400
+
 
 @dataclass
 class Message:
@@ -54,6 +58,30 @@ def value_of(content):
     except (ValueError, RecursionError):
         return {}
     return value if isinstance(value, dict) else {}
+
+
+def is_deep(value):
+    """Whether a JSON object is nested too deep for what compares answers."""
+    level = [value]
+    for _ in range(DEEPEST):
+        parts = (it.values() if isinstance(it, dict) else it for it in level)
+        level = [it for part in parts for it in part if isinstance(it, (dict, list))]
+        if not level:
+            return False
+    return True
+
+
+def shallow_value_of(content):
+    """The same of a server. It raises RecursionError if the content is too deep to be compared."""
+    try:
+        value = json.loads(content)
+    except ValueError:
+        value = {}
+    if not isinstance(value, dict):
+        return {}
+    if is_deep(value):
+        raise RecursionError
+    return value
 
 
 def member(value, *path):

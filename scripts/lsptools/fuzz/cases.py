@@ -180,6 +180,13 @@ def text_before(case, number):
     return text
 
 
+def one_by_one(case):
+    """A case with a message for each edit."""
+    steps = (replace(it, edits=(edit,)) for it in case.steps for edit in it.edits)
+    reopened = any(it.reopened is not None for it in case.steps)
+    return case if reopened else replace(case, steps=tuple(steps))
+
+
 def edits_of(case):
     """How many changes a case makes."""
     return sum(len(it.edits) for it in case.steps)

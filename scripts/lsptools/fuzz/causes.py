@@ -6,7 +6,7 @@ import time
 from dataclasses import dataclass, replace
 
 from lsptools.base.messages import changed
-from lsptools.fuzz.cases import LINE_END, Case, Edit, Editor, Step, text_before
+from lsptools.fuzz.cases import LINE_END, Case, Edit, Editor, Step, one_by_one, text_before
 from lsptools.fuzz.features import SEPARATORS
 from lsptools.fuzz.live import unlike
 from lsptools.fuzz.stores import ANYTHING, KINDS, held
@@ -186,13 +186,6 @@ def further(case):
     text += (end if text and not text.endswith(end) else "") + f"further on{end}"
     wider_case = replace(case, texts=(text, *case.texts[1:]))
     return placed(wider_case, lambda it: replace(it, past=2 * it.past))
-
-
-def one_by_one(case):
-    """A case with a message for each edit."""
-    steps = (replace(it, edits=(edit,)) for it in case.steps for edit in it.edits)
-    reopened = any(it.reopened is not None for it in case.steps)
-    return case if reopened else replace(case, steps=tuple(steps))
 
 
 def wide(case):

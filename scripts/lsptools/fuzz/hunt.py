@@ -32,7 +32,6 @@ AGAIN = (0.05, 0.3)
 # The other encodings that are offered first.
 OFFERED = (["utf-8", "utf-16"], ["utf-32", "utf-16"])
 UTF_16 = "utf-16"
-TOO_DEEP = "a value that the server sends is nested too deep"
 
 
 @dataclass(frozen=True)
@@ -94,8 +93,6 @@ class Hunt:
         try:
             self.session(note)
             self.faults = 0
-        except RecursionError:
-            self.note_failure(Fault(TOO_DEEP))
         except Fault as why:
             self.note_failure(why)
 

@@ -5,7 +5,7 @@ import math
 import time
 from dataclasses import replace
 
-from lsptools.fuzz.cases import LINE_END, Case, text_before
+from lsptools.fuzz.cases import LINE_END, Case, one_by_one, text_before
 from lsptools.servers.halving import first_of
 
 # How many cases are tried in all.
@@ -40,6 +40,7 @@ class Shrinking:
         while True:
             before = self.case
             self.shorten()
+            self.separate_edits()
             self.drop_steps()
             self.drop_document()
             self.simplify_steps()
@@ -73,6 +74,11 @@ class Shrinking:
         if len(case.texts) > 1 or not count or self.keep(tail(case, 1)):
             return
         first_of(0, count, lambda it: it == count or self.keep(tail(case, it)))
+
+    def separate_edits(self):
+        """The fewest last edits, each in a message of its own."""
+        if self.keep(one_by_one(self.case)):
+            self.shorten()
 
     def drop_steps(self):
         """Runs of steps, the long ones first, from the last on."""

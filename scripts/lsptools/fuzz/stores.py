@@ -37,10 +37,11 @@ class Store:
     encoding: str = None
     ends: str = LINE_ENDS
     past: int = AS_END
-    # The same for a line past the last one alone; and whether the first column of the next line is
-    # none of these, and means the end of the text.
+    # The same for a line past the last one alone; whether the first column of the next line is none
+    # of these, and means the end of the text; and whether a text that is empty has no line.
     beyond: int = AS_END
     has_next_line: bool = False
+    is_lineless: bool = False
     # What becomes of the text of a didOpen, of that of a change, of all changes of a message, and
     # of a range.
     opened: object = as_sent
@@ -128,7 +129,8 @@ class Held:
     def offset(self, text, lines, place):
         line, column = place["line"], place["character"]
         if line >= len(lines):
-            if not self.store.has_next_line or (line, column) != (len(lines), 0):
+            count = 0 if self.store.is_lineless and not text else len(lines)
+            if not self.store.has_next_line or (line, column) != (count, 0):
                 check(max(self.store.past, self.store.beyond))
             return len(text)
         start, end, next_start = lines[line]
@@ -221,6 +223,7 @@ PAST = [
     Store("change ignored", past=IGNORED),
     Store("change ignored", past=MESSAGE_IGNORED),
     Store("change ignored", past=MESSAGE_IGNORED, has_next_line=True),
+    Store("change ignored", past=MESSAGE_IGNORED, has_next_line=True, is_lineless=True),
     Store("document dropped", past=DROPPED),
 ]
 BEYOND = [

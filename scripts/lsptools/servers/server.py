@@ -12,7 +12,9 @@ import threading
 import time
 
 from lsptools.base.feeds import Feed, is_readable
-from lsptools.base.messages import key_of, notification, request, response, same_name, value_of
+from lsptools.base.messages import (
+    DEEPEST, key_of, notification, request, response, same_name, shallow_value_of, value_of,
+)
 from lsptools.base.session_log import (
     EDITOR, FIRST_LINE, SERVER, Damaged, Frames, as_records, framed,
 )
@@ -23,6 +25,7 @@ LAST_ANSWER, AFTER_EXIT, AFTER_SIGNAL = 5, 5, 1
 # How much of its standard error is kept, in bytes, and how many lines are shown at its end.
 MOST_SAID, LINES_SAID = 1 << 16, 5
 PUBLISHED = "textDocument/publishDiagnostics"
+TOO_DEEP = f"sends a message that is nested over {DEEPEST} deep"
 
 
 class Ended(Fault):
@@ -79,10 +82,12 @@ class Server:
                 if self.tape:
                     self.tape.add(SERVER, data)
                 for content in frames.add(data):
-                    self.take(value_of(content))
+                    self.take(shallow_value_of(content))
         except (OSError, ValueError) as error:
             if isinstance(error, Damaged):
                 self.fault = f"sends bytes that are not frames: {error}"
+        except RecursionError:
+            self.fault = TOO_DEEP
         with self.condition:
             self.is_over = True
             self.condition.notify_all()
