@@ -1,18 +1,9 @@
 """Each fault of a server is found, with its feature and its cause; and the small case shows it again."""
 
-import sys
-
-from hunts import SERVER, TOP, check, drifts, objects_of, replayed, run_longer, side_by_side, until_found
+from hunts import SERVER, check, drifts, objects_of, replayed, run_longer, side_by_side, until_found
+from lsptools.fuzz import cases, causes, greeting, live
+from lsptools.servers import folders, languages
 from processes import SECONDS
-
-sys.path += [str(TOP / it) for it in ("fuzz", "replay", "page")]
-
-import cases  # noqa: E402
-import causes  # noqa: E402
-import folders  # noqa: E402
-import greeting  # noqa: E402
-import languages  # noqa: E402
-import live  # noqa: E402
 
 # The faults of the server; the features of which one names the drift; and its cause.
 FAULTS = [
