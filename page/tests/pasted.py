@@ -95,7 +95,8 @@ def says_what_lspcheck_says(program, place):
         assert listed == [numbers_for_odd(it) for it in notes[:20]], (log, listed, notes)
         command = re.search(r"^(`+)\s?(lspcheck explain .*?)\s?\1 shows this\.", outside, re.M)[2]
         again = subprocess.run(["bash", "-c", command], cwd=place if log.parent == place else TOP / "examples",
-                               env={"PATH": f"{place}/bin:/usr/bin:/bin"}, capture_output=True) if with_program(place, program) else None
+                               env={"PATH": f"{place}/bin:/usr/bin:/bin"}, stdin=subprocess.DEVNULL,
+                               capture_output=True) if with_program(place, program) else None
         assert again.stdout == output(program, "explain", log), (log, command, again)
 
 

@@ -86,7 +86,9 @@ def shows_commands_that_work(page, program, log, folder):
         if command is None or shown is None:
             continue
         search = {"PATH": f"{folder}/bin:/usr/bin:/bin"}
-        done = subprocess.run(["bash", "-c", command], cwd=log.parent, env=search, capture_output=True)
+        done = subprocess.run(
+            ["bash", "-c", command], cwd=log.parent, env=search, stdin=subprocess.DEVNULL, capture_output=True
+        )
         assert done.returncode == 0 and done.stdout.decode() == shown, (command, done, shown)
         tried += 1
     assert tried, "no command was tried"
