@@ -170,7 +170,7 @@ BROKEN_HUNTS = [
     ("fuzz/confirming.py", "if fault or differing(questions) else None", "if True else None", "counts_only_what_fresh_servers_show"),
     ("fuzz/editing.py", "if feature_with(it) in kinds", "if True", "sessions_begin_with_the_text_that_is_given"),
     ("fuzz/greeting.py", "if own or not verdicts:", "if False:", "says_that_a_session_is_not_legal"),
-    ("fuzz/hunt.py", "except RecursionError:", "except StopIteration:", "answers_values_that_are_nested_too_deep"),
+    ("servers/server.py", "self.fault = TOO_DEEP", "pass", "answers_values_that_are_nested_too_deep"),
     ("fuzz/schedule.py", "- set(ASKED_FOR)", "", "leaves_out_what_it_is_told"),
     ("fuzz/schedule.py", "named - set(without)", "named", "leaves_out_what_it_is_told"),
     ("fuzz/shrinking.py", "                self.drop_text(number)\n", "                pass\n", "writes_each_value"),
