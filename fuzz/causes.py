@@ -121,7 +121,11 @@ class Explaining:
 
     def is_same(self, answers, way):
         """Whether a document that gets its text in this way is answered the same. The symbols are
-        asked first: they tell most texts apart, and other answers may take long."""
+        asked first: they tell most texts apart, and other answers may take long. A document that is
+        not open, at which some servers end, is asked about only if an answer may be of one."""
+        if any(case is None and not is_empty(answers[key])
+               for key in answers for case in [way[key[1]]]):
+            return False
         asked = ([(SYMBOLS, False)], None)
         return all(not unlike(answers, self.answers_about(way, it)) for it in asked)
 
@@ -141,6 +145,11 @@ class Explaining:
 
         found = [SEPARATORS[it] for it in SEPARATORS if it == own or ends(it)]
         return f"{', '.join(found)} {'end' if found[1:] else 'ends'} a line"
+
+
+def is_empty(answer):
+    """Whether an answer says nothing of a text."""
+    return "error" in answer or not answer.get("result")
 
 
 def typed(text):

@@ -101,10 +101,13 @@ class Hunt:
         self.stop(why)
         self.best = None
         self.faults += 1
-        self.failed += 1
-        self.failures = [*self.failures, str(why)][:MOST_TOLD]
+        self.tell_failure(why)
         if self.faults >= MOST_FAULTS:
             raise Failed(str(why), 2) from why
+
+    def tell_failure(self, why):
+        self.failed += 1
+        self.failures = [*self.failures, str(why)][:MOST_TOLD]
 
     def stop(self, why=None):
         """Ends the server, and checks the log of its sessions, unless it has failed."""
@@ -138,7 +141,7 @@ class Hunt:
                 self.look_into(case, by_change, differing, number, note)
         except Ended as why:
             self.stop(why)
-            self.look_into_end(greeting, case, number, note)
+            self.look_into_end(greeting, case, number, note, why)
 
     def greeting_for(self, features):
         """The greeting of a session; None if it needs an encoding that the server does not take."""
@@ -181,7 +184,7 @@ class Hunt:
             whole, lambda it: live.differing(it, by_change, only=only), confirming
         )
         feature, way = self.feature_of(case, greeting), bool(at_fault) and by_change
-        cause = Explaining(live, way, time.monotonic() + EXPLAINING).cause(case, whole)
+        cause = self.cause_of(Explaining(live, way, time.monotonic() + EXPLAINING), case, whole)
         drift = feature, cause
         if drift not in self.known and self.unconfirmed[drift] < MOST_UNCONFIRMED:
             shown = confirming.shown(case) or (case != whole and confirming.shown(whole))
@@ -191,6 +194,14 @@ class Hunt:
                 self.unconfirmed[drift] += 1
         self.best = None
 
+    def cause_of(self, explaining, case, whole):
+        """The cause of a case; none if the server ends while it is looked for."""
+        try:
+            return explaining.cause(case, whole)
+        except Ended as why:
+            self.stop(why)
+            return Cause(())
+
     def cut_down(self, whole, is_shown, confirming, **limits):
         """The smallest case, which is kept as it gets smaller."""
         def keep(case):
@@ -199,11 +210,11 @@ class Hunt:
         keep(whole)
         return Shrinking(whole, is_shown, keep, time.monotonic() + CUTTING, **limits).smallest()
 
-    def look_into_end(self, greeting, whole, number, note):
-        """The same with a case that ends the server."""
+    def look_into_end(self, greeting, whole, number, note, why):
+        """The same with a case that ends the server. If no fresh one ends, the server has failed."""
         confirming, self.best = Confirming(greeting, self.language), None
         if not confirming.ends(whole):
-            self.unconfirmed[CRASH] += 1
+            self.tell_failure(why)
             return
         case = self.cut_down(whole, confirming.ends, confirming, most=MOST_ENDED)
         _, sent, setting = confirming.session(case)

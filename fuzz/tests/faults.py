@@ -47,6 +47,7 @@ FAULTS = [
     (["busy"], ["requests"], "change ignored"),
     (["closed"], ["deleting"], "end of a range belongs to it"),
     (["narrow"], ["long"], "columns have 8 bits"),
+    (["ignores=😀", "strict"], ["astral"], "change ignored"),
     (["cr", "past=dropped"], ["cr", "past-end"], None),
 ]
 # The features whose small cases are replayed, even where the hunt has them alone.

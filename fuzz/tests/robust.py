@@ -1,6 +1,7 @@
 """No server holds up the command, nothing outlives it, and it takes no longer than it may."""
 
 import os
+import re
 import signal
 import subprocess
 import sys
@@ -29,6 +30,12 @@ def answers_values_that_are_nested_too_deep(program, place):
         done = run(program, f"deep={depth}", options=["--seconds", SECONDS])
         assert done.returncode == 2 and "Traceback" not in done.stderr, (depth, done)
         assert "sends a message that is nested over 400 deep" in done.stderr, (depth, done)
+
+
+def says_how_the_server_ended(program, place):
+    """Also where no fresh server ends, since this one ends at its 400th message."""
+    done = run_longer(program, "ends=400", is_wanted=lambda it: "server failed" in it.stdout)
+    assert done.returncode == 0 and re.search(r'^server failed: "python\S* ended with status 3 ', done.stdout, re.M), done
 
 
 def tries_nothing_when_the_time_is_over(_program, _place):
@@ -78,6 +85,7 @@ def with_every_signal():
 TESTS = [
     is_not_held_up,
     answers_values_that_are_nested_too_deep,
+    says_how_the_server_ended,
     tries_nothing_when_the_time_is_over,
     tells_what_there_was_no_time_for,
     leaves_nothing,

@@ -30,6 +30,7 @@ stores of that command.
   noisy                    writes a megabyte to standard error at each change   large   sends 30 MB at once
   asks                     sends a request at each change             stays        ends only if it is killed
   deep=N                   answers with lists in lists, N of them      errors      answers with errors alone
+  strict                   ends at a question about a document that is not open
 """
 
 import json
@@ -200,6 +201,8 @@ class Server:
                 self.send(id=message["id"], result=None)
             elif "silent" not in FAULTS:
                 self.send(id=message["id"], error={"code": -32601, "message": "no such method"})
+        elif document is None and "strict" in FAULTS:
+            sys.exit(3)
         elif document is None or "errors" in FAULTS:
             self.send(id=message["id"], error={"code": -32602, "message": "no such document"})
         elif "deep" in FAULTS:
