@@ -17,7 +17,7 @@ from live import Live
 from program import Failed
 from questions import SYMBOLS
 from recording import Document
-from servers import Ended
+from servers import Ended, TimedOut
 from shrinking import Shrinking
 
 # How often servers may fail one after the other, and how many of these failures are told; how many
@@ -72,6 +72,8 @@ class Hunt:
         # Whether a change without a range gives a document the right text.
         self.is_change_right = True
         self.greetings, self.is_one_by_one, self.live = {}, False, None
+        # Whether the server once gave no answer in time: some hang if what was just opened is changed.
+        self.has_hung = False
         self.form = None
 
     def run(self, seconds, note, note_progress):
@@ -100,6 +102,7 @@ class Hunt:
         """Ends a server that has failed, and the hunt if the last ones have, too."""
         self.stop(why)
         self.best = None
+        self.has_hung = self.has_hung or isinstance(why, TimedOut)
         self.faults += 1
         self.tell_failure(why)
         if self.faults >= MOST_FAULTS:
@@ -162,7 +165,7 @@ class Hunt:
         if self.live and (self.live.greeting is not greeting or self.live.is_old()):
             self.stop()
         if self.live is None:
-            live = Live(greeting, self.language, self.form, self.is_one_by_one)
+            live = Live(greeting, self.language, self.form, self.is_one_by_one, self.has_hung)
             self.live = live.__enter__()
             text = CaseGenerator(self.schedule.seed, PLAIN, self.form, self.start).text()
             if why := live.calibrate(text):

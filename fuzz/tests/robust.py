@@ -32,6 +32,17 @@ def answers_values_that_are_nested_too_deep(program, place):
         assert "sends a message that is nested over 400 deep" in done.stderr, (depth, done)
 
 
+def finds_what_hangs_the_server(program, place):
+    """Unless the server was asked about a document before it drops it, as clangd 14: then it hangs at the fourth."""
+    faults = ["past=dropped", "hangs=4"]
+    for seconds in (5, 20, 80):
+        options = ["--only", "past-end", "--seconds", SECONDS, "--wait", seconds]
+        done = run(program, *faults, options=options, timeout=10 * SECONDS)
+        if done.returncode == 1:
+            break
+    assert done.stdout.startswith("drift past-end: document dropped; "), done
+
+
 def says_how_the_server_ended(program, place):
     """Also where no fresh server ends, since this one ends at its 400th message."""
     done = run_longer(program, "ends=400", is_wanted=lambda it: "server failed" in it.stdout)
@@ -85,6 +96,7 @@ def with_every_signal():
 TESTS = [
     is_not_held_up,
     answers_values_that_are_nested_too_deep,
+    finds_what_hangs_the_server,
     says_how_the_server_ended,
     tries_nothing_when_the_time_is_over,
     tells_what_there_was_no_time_for,

@@ -31,6 +31,7 @@ stores of that command.
   asks                     sends a request at each change             stays        ends only if it is killed
   deep=N                   answers with lists in lists, N of them      errors      answers with errors alone
   strict                   ends at a question about a document that is not open
+  hangs=N                  answers nothing any more once it dropped N documents that it was not asked about
 """
 
 import json
@@ -172,6 +173,8 @@ class Server:
     def __init__(self):
         self.documents, self.closed, self.encoding = {}, {}, "utf-16"
         self.heard, self.is_asked, self.opened, self.asked = 0, False, 0, 0
+        # How many documents were dropped that are not among those that it was asked about.
+        self.dropped, self.known = 0, set()
 
     def send(self, **message):
         head = {} if "breaks" in FAULTS and "result" in message else {"jsonrpc": "2.0"}
@@ -193,7 +196,9 @@ class Server:
     def answer(self, message):
         method, params = message["method"], message.get("params") or {}
         time.sleep(float(FAULTS.get("slow", 0)))
-        document = self.documents.get((params.get("textDocument") or {}).get("uri"))
+        uri = (params.get("textDocument") or {}).get("uri")
+        document = self.documents.get(uri)
+        self.known.add(uri)
         if method == "initialize":
             self.greet(message["id"], params)
         elif method not in ANSWERS or "silent" in FAULTS:
@@ -241,6 +246,9 @@ class Server:
             document.set(before)
             if FAULTS.get("past") == "dropped" or lost.args:
                 del self.documents[uri]
+                self.dropped += uri not in self.known
+            if self.dropped >= int(FAULTS.get("hangs", 1 << 30)):
+                signal.pause()
 
     def check(self, text):
         if FAULTS.get("dies", "\0") in text:
