@@ -94,15 +94,20 @@ def finds_one_behind_the_other(program, place):
 
 
 def explains_an_emptied_text(program, place):
-    """In a server for which that has no line, as in gopls 0.5.0: the line after the last one is its first."""
-    command = [*map(str, SERVER), "cr", "past=go"]
-    target = greeting.Target(program, command, place, folders.Folders([], place), place, SECONDS, 1)
-    case = cases.Case(("\r\r",), (cases.Step(0, (cases.Edit(0, 1, ""),)),))
-    greeted, language = greeting.Greeting(target, ["utf-16"]), greeting.Language("c")
-    with live.Live(greeted, language, languages.FORMS["c"]) as server:
-        assert server.differing(case)
-        cause = causes.Explaining(server).cause(case, case)
-    assert str(cause) == "a lone CR ends no line", cause
+    """In a server for which that has no second line, which this deletion takes; as rust-analyzer 1.85.1. Or no
+    first one either, as gopls 0.5.0."""
+    for faults, text, edit, wanted in (
+        (["past=after", "beyond=alone", "formats"], ")\n", cases.Edit(0, 1, "", past=1), "stands after the line end"),
+        (["cr", "past=go"], "\r\r", cases.Edit(0, 1, ""), "a lone CR ends no line"),
+    ):
+        command = [*map(str, SERVER), *faults]
+        target = greeting.Target(program, command, place, folders.Folders([], place), place, SECONDS, 1)
+        case = cases.Case((text,), (cases.Step(0, (edit,)),))
+        greeted, language = greeting.Greeting(target, ["utf-16"]), greeting.Language("c")
+        with live.Live(greeted, language, languages.FORMS["c"]) as server:
+            assert server.differing(case)
+            cause = causes.Explaining(server).cause(case, case)
+        assert str(cause) == wanted, (faults, cause)
 
 
 def counts_only_what_fresh_servers_show(program, place):

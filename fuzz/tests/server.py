@@ -9,7 +9,7 @@ stores of that command.
                            the line end), ignored (the change), dropped (the document), go (ignored, and so is
                            a line past the last one; but the first column of the line after that is the end,
                            and an empty text has no line)
-  beyond                   a change with a line past the last one is ignored
+  beyond[=alone]           a change with a line past the last one is ignored, with all of its message or alone
   disk                     the text of a didOpen is ignored: there is no file
   ignores=WORD             ignores a change to a text with this word   drops=WORD   drops the document at one
   dies=WORD                ends at one                                 backwards    makes the changes of a message backwards
@@ -132,7 +132,12 @@ class Document:
             return
         if "length" in FAULTS and "rangeLength" in change:
             return
-        start, end = (self.index(text, change["range"][it]) for it in ("start", "end"))
+        try:
+            start, end = (self.index(text, change["range"][it]) for it in ("start", "end"))
+        except Lost:
+            if FAULTS.get("beyond") == "alone":
+                return
+            raise
         if "closed" in FAULTS and end > start:
             end += end < len(text) and text[end] not in "\r\n"
         self.set(self.text[:start] + new + self.text[max(start, end) :])
