@@ -72,7 +72,7 @@ class Hunt:
         # Whether a change without a range gives a document the right text.
         self.is_change_right = True
         self.greetings, self.is_one_by_one, self.live = {}, False, None
-        # Whether the server once gave no answer in time: some hang if what was just opened is changed.
+        # Whether the server once gave no answer in time: some hang if a new document is changed.
         self.has_hung = False
         self.form = None
 
@@ -214,7 +214,7 @@ class Hunt:
         return Shrinking(whole, is_shown, keep, time.monotonic() + CUTTING, **limits).smallest()
 
     def look_into_end(self, greeting, whole, number, note, why):
-        """The same with a case that ends the server. If no fresh one ends, the server has failed."""
+        """The same with a case that ends the server, which has failed if no fresh one ends."""
         confirming, self.best = Confirming(greeting, self.language), None
         if not confirming.ends(whole):
             self.tell_failure(why)

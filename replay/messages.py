@@ -5,11 +5,11 @@ from dataclasses import dataclass
 from urllib.parse import unquote
 
 # How deep a message of a server may be nested. What compares answers calls itself for each level,
-# which Python bears for some 480; and lspcheck takes 127.
+# and Python bears about 480; lspcheck takes 127.
 DEEPEST = 400
 
 # How deep a message of a server may be nested. What compares answers calls itself for each level,
-# which Python bears for some 480; and lspcheck takes 127.
+# and Python bears about 480; lspcheck takes 127.
 DEEPEST = 400
 
 
