@@ -38,6 +38,7 @@ FAULTS = [
     (["busy"], ["requests"], "change ignored"),
     (["closed"], ["deleting"], "end of a range belongs to it"),
     (["narrow"], ["long"], "columns have 8 bits"),
+    (["ignores=😀", "strict"], ["astral"], "change ignored"),
     (["cr", "past=dropped"], ["cr", "past-end"], None),
 ]
 # The features whose small cases are replayed, even where the hunt has them alone.
@@ -83,16 +84,23 @@ def finds_one_behind_the_other(program, place):
     assert found == wanted, found
 
 
-def explains_an_emptied_text(program, place):
-    """In a server for which that has no line, as in gopls 0.5.0: the line after the last one is its first."""
-    command = [*map(str, SERVER), "cr", "past=go"]
-    target = greeting.Target(program, command, place, folders.Folders([], place), place, SECONDS, 1)
-    case = cases.Case(("\r\r",), (cases.Step(0, (cases.Edit(0, 1, ""),)),))
-    greeted, language = greeting.Greeting(target, ["utf-16"]), greeting.Language("c")
-    with live.Live(greeted, language, languages.FORMS["c"]) as server:
-        assert server.differing(case)
-        cause = causes.Explaining(server).cause(case, case)
-    assert str(cause) == "a lone CR ends no line", cause
+def explains_what_looks_otherwise(program, place):
+    """A text that was emptied, in a server for which it has no second line, as rust-analyzer 1.85.1, or no first
+    one either, as gopls 0.5.0; and columns that would be right in bytes, too, as in pylsp 1.7.1."""
+    separators = "vertical tab, form feed, U+001C, U+001D, U+001E, U+0085, U+2028, U+2029 end a line"
+    for faults, text, edit, wanted in (
+        (["separators", "past=after", "formats"], "\u2028xv", cases.Edit(1, 2, ""), separators),
+        (["past=after", "beyond=alone", "formats"], ")\n", cases.Edit(0, 1, "", past=1), "stands after the line end"),
+        (["cr", "past=go"], "\r\r", cases.Edit(0, 1, ""), "a lone CR ends no line"),
+    ):
+        command = [*map(str, SERVER), *faults]
+        target = greeting.Target(program, command, place, folders.Folders([], place), place, SECONDS, 1)
+        case = cases.Case((text,), (cases.Step(0, (edit,)),))
+        greeted, language = greeting.Greeting(target, ["utf-16"]), greeting.Language("c")
+        with live.Live(greeted, language, languages.FORMS["c"]) as server:
+            assert server.differing(case)
+            cause = causes.Explaining(server).cause(case, case)
+        assert str(cause) == wanted, (faults, cause)
 
 
 def counts_only_what_fresh_servers_show(program, place):
@@ -103,5 +111,5 @@ def counts_only_what_fresh_servers_show(program, place):
     assert done.returncode == 0 and total["drifts"] == 0 and total["unconfirmed"] > 0, done
 
 
-TESTS = [finds_each_fault, finds_one_behind_the_other, explains_an_emptied_text, counts_only_what_fresh_servers_show]
+TESTS = [finds_each_fault, finds_one_behind_the_other, explains_what_looks_otherwise, counts_only_what_fresh_servers_show]
 LONG_TESTS = [finds_each_fault_among_all_features]

@@ -130,6 +130,7 @@ def cuts_down_to_what_it_takes(_program, _place):
                 smallest = shrinking.Shrinking(case, is_shown, lambda it: None).smallest()
                 assert len(smallest.steps) == len(smallest.steps[0].edits) == 1, smallest
                 assert len(smallest.texts[0]) <= 4 and features.features_of(smallest)[0] == chosen[0], smallest
+                assert chosen[0] == "astral" or smallest.texts[0].isascii(), smallest
                 found += 1
         assert found > 10, found
 

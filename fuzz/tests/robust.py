@@ -1,6 +1,7 @@
 """No server holds up the command, nothing outlives it, and it takes no longer than it may."""
 
 import os
+import re
 import signal
 import subprocess
 
@@ -24,6 +25,23 @@ def answers_values_that_are_nested_too_deep(program, place):
         done = run(program, f"deep={depth}", options=["--seconds", SECONDS])
         assert done.returncode == 2 and "Traceback" not in done.stderr, (depth, done)
         assert "sends a message that is nested over 400 deep" in done.stderr, (depth, done)
+
+
+def finds_what_hangs_the_server(program, place):
+    """Unless the server was asked about a document before it drops it, as clangd 14: then it hangs at the fourth."""
+    faults = ["past=dropped", "hangs=4"]
+    for seconds in (5, 20, 80):
+        options = ["--only", "past-end", "--seconds", SECONDS, "--wait", seconds]
+        done = run(program, *faults, options=options, timeout=10 * SECONDS)
+        if done.returncode == 1:
+            break
+    assert done.stdout.startswith("drift past-end: document dropped; "), done
+
+
+def says_how_the_server_ended(program, place):
+    """Also where no fresh server ends, since this one ends at its 400th message."""
+    done = run_longer(program, "ends=400", is_wanted=lambda it: "server failed" in it.stdout)
+    assert done.returncode == 0 and re.search(r'^server failed: "python\S* ended with status 3 ', done.stdout, re.M), done
 
 
 def tries_nothing_when_the_time_is_over(_program, _place):
@@ -73,6 +91,8 @@ def with_every_signal():
 TESTS = [
     is_not_held_up,
     answers_values_that_are_nested_too_deep,
+    finds_what_hangs_the_server,
+    says_how_the_server_ended,
     tries_nothing_when_the_time_is_over,
     tells_what_there_was_no_time_for,
     leaves_nothing,

@@ -9,7 +9,7 @@ stores of that command.
                            the line end), ignored (the change), dropped (the document), go (ignored, and so is
                            a line past the last one; but the first column of the line after that is the end,
                            and an empty text has no line)
-  beyond                   a change with a line past the last one is ignored
+  beyond[=alone]           a change with a line past the last one is ignored, with all of its message or alone
   disk                     the text of a didOpen is ignored: there is no file
   ignores=WORD             ignores a change to a text with this word   drops=WORD   drops the document at one
   dies=WORD                ends at one                                 backwards    makes the changes of a message backwards
@@ -30,6 +30,8 @@ stores of that command.
   noisy                    writes a megabyte to standard error at each change   large   sends 30 MB at once
   asks                     sends a request at each change             stays        ends only if it is killed
   deep=N                   answers with lists in lists, N of them      errors      answers with errors alone
+  strict                   ends at a question about a document that is not open
+  hangs=N                  answers nothing any more once it dropped N documents that it was not asked about
 """
 
 import json
@@ -129,7 +131,12 @@ class Document:
             return
         if "length" in FAULTS and "rangeLength" in change:
             return
-        start, end = (self.index(text, change["range"][it]) for it in ("start", "end"))
+        try:
+            start, end = (self.index(text, change["range"][it]) for it in ("start", "end"))
+        except Lost:
+            if FAULTS.get("beyond") == "alone":
+                return
+            raise
         if "closed" in FAULTS and end > start:
             end += end < len(text) and text[end] not in "\r\n"
         self.set(self.text[:start] + new + self.text[max(start, end) :])
@@ -170,6 +177,8 @@ class Server:
     def __init__(self):
         self.documents, self.closed, self.encoding = {}, {}, "utf-16"
         self.heard, self.is_asked, self.opened, self.asked = 0, False, 0, 0
+        # How many documents were dropped that are not among those that it was asked about.
+        self.dropped, self.known = 0, set()
 
     def send(self, **message):
         head = {} if "breaks" in FAULTS and "result" in message else {"jsonrpc": "2.0"}
@@ -191,7 +200,9 @@ class Server:
     def answer(self, message):
         method, params = message["method"], message.get("params") or {}
         time.sleep(float(FAULTS.get("slow", 0)))
-        document = self.documents.get((params.get("textDocument") or {}).get("uri"))
+        uri = (params.get("textDocument") or {}).get("uri")
+        document = self.documents.get(uri)
+        self.known.add(uri)
         if method == "initialize":
             self.greet(message["id"], params)
         elif method not in ANSWERS or "silent" in FAULTS:
@@ -199,6 +210,8 @@ class Server:
                 self.send(id=message["id"], result=None)
             elif "silent" not in FAULTS:
                 self.send(id=message["id"], error={"code": -32601, "message": "no such method"})
+        elif document is None and "strict" in FAULTS:
+            sys.exit(3)
         elif document is None or "errors" in FAULTS:
             self.send(id=message["id"], error={"code": -32602, "message": "no such document"})
         elif "deep" in FAULTS:
@@ -237,6 +250,9 @@ class Server:
             document.set(before)
             if FAULTS.get("past") == "dropped" or lost.args:
                 del self.documents[uri]
+                self.dropped += uri not in self.known
+            if self.dropped >= int(FAULTS.get("hangs", 1 << 30)):
+                signal.pause()
 
     def check(self, text):
         if FAULTS.get("dies", "\0") in text:

@@ -121,7 +121,11 @@ class Explaining:
 
     def is_same(self, answers, way):
         """Whether a document that gets its text in this way is answered the same. The symbols are
-        asked first: they tell most texts apart, and other answers may take long."""
+        asked first: they tell most texts apart, and other answers may take long. A document that is
+        not open, at which some servers end, is asked about only if an answer may be of one."""
+        if any(case is None and not is_empty(answers[key])
+               for key in answers for case in [way[key[1]]]):
+            return False
         asked = ([(SYMBOLS, False)], None)
         return all(not unlike(answers, self.answers_about(way, it)) for it in asked)
 
@@ -137,10 +141,17 @@ class Explaining:
         own = SEPARATING[name]
 
         def ends(other):
-            return self.live.differing(case.mapped(lambda it: it.replace(own, other)))
+            after = Case((f"a{other}b\n",), (Step(0, (Edit(3, 3, "x"),)),))
+            cases = case.mapped(lambda it: it.replace(own, other)), after
+            return any(map(self.live.differing, cases))
 
         found = [SEPARATORS[it] for it in SEPARATORS if it == own or ends(it)]
         return f"{', '.join(found)} {'end' if found[1:] else 'ends'} a line"
+
+
+def is_empty(answer):
+    """Whether an answer says nothing of a text."""
+    return "error" in answer or not answer.get("result")
 
 
 def typed(text):
@@ -153,13 +164,18 @@ SEPARATING = {f"{name} ends a line": it for it, name in SEPARATORS.items()}
 
 def plainer_cases(case):
     """Cases that have less: what is wrong for their sake may be right there."""
-    texts = (case.mapped(in_ascii), case.mapped(in_lines))
+    texts = (case.mapped(it) for it in (in_ascii, in_letters, in_lines))
     return [it for it in (*texts, within_lines(case), one_by_one(case)) if it != case]
 
 
 def in_ascii(text):
     """A text in which each character that is not plain ASCII is an x."""
     return "".join(it if it in "\t\r\n" or " " <= it < "\x7f" else "x" for it in text)
+
+
+def in_letters(text):
+    """A text with a letter of as many bytes for each character that may end a line elsewhere."""
+    return "".join("yéम"[len(it.encode()) - 1] if it in SEPARATORS else it for it in text)
 
 
 def in_lines(text):

@@ -18,7 +18,7 @@ from lsptools.servers.comparison import Comparison
 from lsptools.servers.languages import forms_of
 from lsptools.servers.questions import SYMBOLS
 from lsptools.servers.recording import Document
-from lsptools.servers.server import Ended
+from lsptools.servers.server import Ended, TimedOut
 
 # How often servers may fail one after the other, and how many of these failures are told; how many
 # cases are tried to cut down what ends a server, each in a new one.
@@ -72,6 +72,8 @@ class Hunt:
         # Whether a change without a range gives a document the right text.
         self.is_change_right = True
         self.greetings, self.is_one_by_one, self.live = {}, False, None
+        # Whether the server once gave no answer in time: some hang if a new document is changed.
+        self.has_hung = False
         self.form = None
 
     def run(self, seconds, note, note_progress):
@@ -100,11 +102,15 @@ class Hunt:
         """Ends a server that has failed, and the hunt if the last ones have, too."""
         self.stop(why)
         self.best = None
+        self.has_hung = self.has_hung or isinstance(why, TimedOut)
         self.faults += 1
-        self.failed += 1
-        self.failures = [*self.failures, str(why)][:MOST_TOLD]
+        self.tell_failure(why)
         if self.faults >= MOST_FAULTS:
             raise Failed(str(why), 2) from why
+
+    def tell_failure(self, why):
+        self.failed += 1
+        self.failures = [*self.failures, str(why)][:MOST_TOLD]
 
     def stop(self, why=None):
         """Ends the server, and checks the log of its sessions, unless it has failed."""
@@ -138,7 +144,7 @@ class Hunt:
                 self.look_into(case, by_change, differing, number, note)
         except Ended as why:
             self.stop(why)
-            self.look_into_end(greeting, case, number, note)
+            self.look_into_end(greeting, case, number, note, why)
 
     def greeting_for(self, features):
         """The greeting of a session; None if it needs an encoding that the server does not take."""
@@ -159,7 +165,7 @@ class Hunt:
         if self.live and (self.live.greeting is not greeting or self.live.is_old()):
             self.stop()
         if self.live is None:
-            live = Live(greeting, self.language, self.form, self.is_one_by_one)
+            live = Live(greeting, self.language, self.form, self.is_one_by_one, self.has_hung)
             self.live = live.__enter__()
             text = CaseGenerator(self.schedule.seed, PLAIN, self.form, self.start).text()
             if why := live.calibrate(text):
@@ -181,7 +187,7 @@ class Hunt:
             whole, lambda it: live.differing(it, by_change, only=only), confirming
         )
         feature, way = self.feature_of(case, greeting), bool(at_fault) and by_change
-        cause = Explaining(live, way, time.monotonic() + EXPLAINING).cause(case, whole)
+        cause = self.cause_of(Explaining(live, way, time.monotonic() + EXPLAINING), case, whole)
         drift = feature, cause
         if drift not in self.known and self.unconfirmed[drift] < MOST_UNCONFIRMED:
             shown = confirming.shown(case) or (case != whole and confirming.shown(whole))
@@ -191,6 +197,14 @@ class Hunt:
                 self.unconfirmed[drift] += 1
         self.best = None
 
+    def cause_of(self, explaining, case, whole):
+        """The cause of a case; none if the server ends while it is looked for."""
+        try:
+            return explaining.cause(case, whole)
+        except Ended as why:
+            self.stop(why)
+            return Cause(())
+
     def cut_down(self, whole, is_shown, confirming, **limits):
         """The smallest case, which is kept as it gets smaller."""
         def keep(case):
@@ -199,11 +213,11 @@ class Hunt:
         keep(whole)
         return Shrinking(whole, is_shown, keep, time.monotonic() + CUTTING, **limits).smallest()
 
-    def look_into_end(self, greeting, whole, number, note):
-        """The same with a case that ends the server."""
+    def look_into_end(self, greeting, whole, number, note, why):
+        """The same with a case that ends the server, which has failed if no fresh one ends."""
         confirming, self.best = Confirming(greeting, self.language), None
         if not confirming.ends(whole):
-            self.unconfirmed[CRASH] += 1
+            self.tell_failure(why)
             return
         case = self.cut_down(whole, confirming.ends, confirming, most=MOST_ENDED)
         _, sent, setting = confirming.session(case)

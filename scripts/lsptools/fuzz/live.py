@@ -56,9 +56,10 @@ class Live:
     """A server that runs. It is used as a context, which ends it, and checks the log of all that it
     was sent."""
 
-    def __init__(self, greeting, language, form, is_one_by_one=False):
+    def __init__(self, greeting, language, form, is_one_by_one=False, is_careful=False):
         self.greeting, self.language, self.form = greeting, language, form
-        self.is_one_by_one = is_one_by_one
+        # Whether a document that is opened is asked about before it is changed.
+        self.is_one_by_one, self.is_careful = is_one_by_one, is_careful
         self.editor = Editor(language.name, greeting.encoding)
         self.journal, self.run = Journal(greeting.target), None
         self.opened = self.plays = self.asked = 0
@@ -109,7 +110,8 @@ class Live:
         uris = [self.uri() for _ in case.texts]
         for sent in self.editor.messages(case, uris):
             self.send(sent)
-            if is_slow and sent.step is not None:
+            is_opened = sent.step is None and sent.text is not None
+            if self.is_careful if is_opened else is_slow:
                 self.run.ask(SYMBOLS, {"textDocument": {"uri": sent.uri}})
         return self.told(uris[0], self.editor.texts[uris[0]])
 

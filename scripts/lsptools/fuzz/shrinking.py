@@ -6,6 +6,7 @@ import time
 from dataclasses import replace
 
 from lsptools.fuzz.cases import LINE_END, Case, one_by_one, text_before
+from lsptools.fuzz.features import SEPARATORS, feature_with
 from lsptools.servers.halving import first_of
 
 # How many cases are tried in all.
@@ -48,9 +49,20 @@ class Shrinking:
                 self.drop_text(number)
             if self.case == before or self.is_over():
                 break
+        self.plain_characters()
         self.end_lines()
         self.unify_ends()
         return self.case
+
+    def plain_characters(self):
+        """Has an x for each character that few texts have, or a form feed for one that may end a
+        line, unless it takes the character."""
+        typed = [edit.text for step in self.case.steps for edit in step.edits]
+        found = dict.fromkeys("".join([*self.case.texts, *typed]))
+        self.left = max(self.left, 2 * len(found))
+        for it in filter(feature_with, found):
+            for plain in ("x", "\f") if it in SEPARATORS else ("x",):
+                self.keep(self.case.mapped(lambda text: text.replace(it, plain)))
 
     def end_lines(self):
         """Ends the last line of each text, as most texts do: unless that is what it takes."""

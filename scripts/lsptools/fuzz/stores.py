@@ -13,6 +13,7 @@ from lsptools.servers.overwriting import units
 LINE_ENDS = "\r\n|\r|\n"
 # How a column past the end of a line is taken.
 AS_END, AFTER_END, RUNS_ON, IGNORED, MESSAGE_IGNORED, DROPPED = range(6)
+BEYONDS = (AS_END, IGNORED, MESSAGE_IGNORED)
 
 
 class Refused(Exception):
@@ -217,9 +218,10 @@ FAULTS = [
     Store("columns have 8 bits", range=lambda it: narrowed(it, 1 << 8)),
     Store("columns have 16 bits", range=lambda it: narrowed(it, 1 << 16)),
 ]
+# Where a column past the end is a place, a line past the last one need not be.
 PAST = [
-    Store("runs into the next line", past=RUNS_ON),
-    Store("stands after the line end", past=AFTER_END),
+    *(Store("runs into the next line", past=RUNS_ON, beyond=it) for it in BEYONDS),
+    *(Store("stands after the line end", past=AFTER_END, beyond=it) for it in BEYONDS),
     Store("change ignored", past=IGNORED),
     Store("change ignored", past=MESSAGE_IGNORED),
     Store("change ignored", past=MESSAGE_IGNORED, has_next_line=True),
