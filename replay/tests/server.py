@@ -24,7 +24,7 @@
   trails       publishes how each line ends, as diagnostics                lags=S  takes S seconds to set a text
   dies=T       ends at a change to the text T                              wholeless  ignores changes of the whole text
   opens=HOW    takes the text of a didOpen otherwise: as "" (ignored), from the disk, without CR (crlf), up to a NUL
-               (nul), without a byte order mark (bom), or composed (nfc)
+               (nul), without a byte order mark (bom), composed (nfc), or with a line end too many (newline)
   forgets=N    loses the Nth didOpen
   saved        answers by the text that was opened or saved last   says=T     says so on standard error at a change to T
   modified=N   answers the first N questions in each process with an error that passes
@@ -117,15 +117,18 @@ def symbols(text):
         yield {"name": line or "-", "kind": 13, "range": place, "selectionRange": place, "data": time.time()}
 
 
-DECLARED = re.compile(rf"(?:{FAULTS.get('defs') or 'def|int'}) (\w+)")
+DECLARED = re.compile(rf"(?:{FAULTS.get('defs') or 'def|int'}) (\w+)|void (\w+)\(\) \{{")
 
 
 def declared(text):
-    """Symbols of what is declared, wherever it is."""
-    for number, line in enumerate(lines(text)):
+    """Symbols of what is declared, wherever it is. A function is never closed, so it ends with the text."""
+    split = lines(text)
+    for number, line in enumerate(split):
         for found in DECLARED.finditer(line):
-            place = {"start": position(number, found.start(1)), "end": position(number, found.end(1))}
-            yield {"name": found[1], "kind": 13, "range": place, "selectionRange": place}
+            start, end = found.span(found.lastindex)
+            place = {"start": position(number, start), "end": position(number, end)}
+            reach = place if found[1] else {**place, "end": position(len(split) - 1, len(split[-1]))}
+            yield {"name": found[found.lastindex], "kind": 13, "range": reach, "selectionRange": place}
 
 
 def has_come(fault):
@@ -153,6 +156,7 @@ TAKEN = {
     "nul": lambda uri, text: text.partition("\0")[0],
     "bom": lambda uri, text: text.lstrip("\ufeff"),
     "nfc": lambda uri, text: unicodedata.normalize("NFC", text),
+    "newline": lambda uri, text: text + "\n",
 }
 
 def complaints(text):

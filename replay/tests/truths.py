@@ -44,6 +44,18 @@ def shows_each_character_that_is_lost(_program, _place):
             assert names_after(store, wrong, written) != sorted(written.names.values()), (text, wrong)
 
 
+def sees_a_line_too_many_at_the_end(program, place_of):
+    """Nothing follows it that it could move: one that a server kept, and an empty one that it added."""
+    session = opened("int a;\n// b\n// c")
+    lost = session.change(URI, [(11, 16, "")])
+    session.change(URI, [(0, 0, "\n")])
+    log = put(place_of, session.end())
+    done = run(program, log, "defs", "lose=1")
+    assert named(done) == {URI: (lost, session.numbers[lost])}, done
+    done = run(program, log, "defs", "opens=newline")
+    assert done.returncode == 1 and "\nat-fault didOpen-or-whole-change\n" in done.stdout, done
+
+
 ASCII = "ab1_ \t.;(){}\"#/\n"
 
 
@@ -330,6 +342,7 @@ TESTS = [
     accuses_no_right_text_for_what_it_sends,
     names_what_shows_in_no_answer,
     shows_each_character_that_is_lost,
+    sees_a_line_too_many_at_the_end,
     names_the_first_where_names_show_nothing,
     finds_how_a_language_declares_names,
     sees_what_diagnostics_alone_show,

@@ -266,8 +266,9 @@ def fault_of(key, told, opened, changed):
     if not all(map(is_steady, kinds)) or last_of(one) == last_of(other):
         return None
     who = at_fault(key, told, one[-1], other[-1])
-    # What overwrites the lines may itself be lost: that it is not tells the names.
-    return None if who == EITHER and key.is_overwritten else Fault(who, key, one[-1], other[-1])
+    # What overwrites the lines may itself be lost. That it was not, the names tell.
+    is_sent = not key.is_overwritten or all(shows(key, told, it) for it in (one, other))
+    return None if who == EITHER and not is_sent else Fault(who, key, one[-1], other[-1])
 
 
 def texts_after(setting, number, uris):
@@ -333,15 +334,18 @@ def is_shown(told, answers):
     return bool(answers) and told.overwriting.is_shown(names_of(answers[-1].get("result")))
 
 
+def shows(key, told, answers):
+    """Whether a question is about the names of a document, and its last answer has them."""
+    return key.is_overwritten and key.method == SYMBOLS and is_shown(told, answers)
+
+
 def at_fault(key, told, opened, changed):
     """Which of two fresh servers has the wrong text: the one whose answer does not have what the
     right text has."""
     text = told.overwriting.text if key.is_overwritten else told.text
 
     def is_right(answer):
-        result = answer.get("result")
-        has_names = key.is_overwritten and key.method == SYMBOLS
-        return has_names and is_shown(told, [answer]) or bool(text) and text in strings_of(result)
+        return shows(key, told, [answer]) or bool(text) and text in strings_of(answer.get("result"))
 
     def has_its_ends(answer):
         found = {end for it in strings_of(answer.get("result")) for end in LINE_END.findall(it)}

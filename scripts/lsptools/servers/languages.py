@@ -14,7 +14,8 @@ class Form:
     last: str = ""
 
 
-INT = Form("int ", ";")
+# The range of a function that is not closed ends where the text does, so it shows what follows.
+INT = Form("int ", ";", last=" void q() {\n")
 VAR = Form("var ", ";")
 VALUE = Form("", " = 0")
 LET = Form("let ", " = 0")
