@@ -11,6 +11,7 @@ import sys
 
 import several
 from given import EXAMPLES, TOP
+from words import BAD_WORDS
 
 
 def script(name):
@@ -33,7 +34,7 @@ def wrapped(tried):
 
 
 def bad_words(cli, trial):
-    for words in cli.BAD_WORDS:
+    for words in BAD_WORDS:
         # No words at all ask for help.
         said = b"lspcheck: error: " if words else b"Judges recorded sessions"
         trial.run("words", words, 64, b"", cli.begins(said))
